@@ -21,8 +21,7 @@ from plantbal.gates import Stop
 from plantbal.report.blocks import Block
 from plantbal.report.output import Output, parse_report
 from plantbal_office.plants.models import Plant
-from plantbal_office.sentences import verdict_said
-from plantbal_office.shelf import contents_of, plain_book, run_settings
+from plantbal_office.shelf import book_contents, plain_book, run_settings
 
 # How many months a preview makes the reports of, the latest ones, and how many flows it names.
 MOST_MONTHS, MOST_FLOWS = 4, 12
@@ -103,7 +102,7 @@ class ActionEffect:
         The flows that change most.
     more : int
         How many others change.
-    fault : str
+    fault : Fault or None
         Why there would be no report.
     """
 
@@ -112,7 +111,7 @@ class ActionEffect:
     after: Said | None
     shifts: tuple[Shift, ...] = ()
     more: int = 0
-    fault: str = ""
+    fault: Fault | None = None
 
 
 @dataclass(frozen=True)
@@ -137,7 +136,7 @@ class Trial:
     left_out: tuple[str, ...] = field(default=())
 
 
-def said_of(output: Output, stops: Sequence[Stop] = (), holes: Sequence[str] = ()) -> Said:
+def report_said(output: Output, stops: Sequence[Stop] = (), holes: Sequence[str] = ()) -> Said:
     """Return what a report says as a whole."""
     block = output.reports[-1] if output.reports else None
     if block is None or block.solved is None:
@@ -148,7 +147,7 @@ def said_of(output: Output, stops: Sequence[Stop] = (), holes: Sequence[str] = (
         level = "bad"
     critical = whole.get("critical")
     return Said(
-        verdict_said(block),
+        block.verdict,
         level,
         int(block.solved["low"]) / 1000 if critical else None,
         int(critical) / 1000 if critical else None,
@@ -158,7 +157,7 @@ def said_of(output: Output, stops: Sequence[Stop] = (), holes: Sequence[str] = (
     )
 
 
-def flows_of(output: Output) -> dict[str, int]:
+def booked_flows(output: Output) -> dict[str, int]:
     """Return the flows to book of a report, in grams."""
     block: Block | None = output.reports[-1] if output.reports else None
     rows = block.streams if block is not None else []
@@ -173,7 +172,7 @@ def shifts_of(before: Output | None, after: Output) -> list[Shift]:
     """Return the flows that two reports have otherwise, those that change most first."""
     if before is None:
         return []
-    old, new = flows_of(before), flows_of(after)
+    old, new = booked_flows(before), booked_flows(after)
     found = [Shift(name, old.get(name), new.get(name)) for name in dict.fromkeys([*old, *new])]
     return sorted((each for each in found if each.by != 0), key=lambda each: -each.size)
 
@@ -194,7 +193,7 @@ def tried(
     touches : callable
         Returns the months that it touches, by what came of it and what is then in the book.
     """
-    kept = contents_of(plant)
+    kept = book_contents(plant)
     with plain_book(plant).trial() as book:
         try:
             result = act(book)
@@ -212,13 +211,13 @@ def _effect(plant: Plant, book: Book, kept: Contents, then: Contents, name: str)
     month = then.month(name)
     assert month is not None
     before = kept_output(plant, kept, name)
-    old = said_of(before) if before is not None else None
+    old = report_said(before) if before is not None else None
     try:
         report: Reported = next(iter(book.reports(name, settings=run_settings())))
     except Fault as fault:
-        return ActionEffect(month, old, None, fault=str(fault))
+        return ActionEffect(month, old, None, fault=fault)
     shifts = shifts_of(before, report.output)
-    new = said_of(report.output, report.stops, report.holes)
+    new = report_said(report.output, report.stops, report.holes)
     return ActionEffect(
         month, old, new, tuple(shifts[:MOST_FLOWS]), max(0, len(shifts) - MOST_FLOWS)
     )
@@ -235,7 +234,7 @@ def kept_output(plant: Plant, kept: Contents, name: str) -> Output | None:
 # ---- which months
 
 
-def months_of(facts: Iterable[BookFact], contents: Contents) -> list[str]:
+def touched_months(facts: Iterable[BookFact], contents: Contents) -> list[str]:
     """Return the months that some facts touch, in the order of their days."""
     spans = {(fact.first, fact.last, fact.kind == "dip") for fact in facts}
     return [
@@ -255,7 +254,7 @@ def months_added(result: object, contents: Contents) -> list[str]:
     rows = [row for year in result.years for row in year.rows]
     named = {row[1] for row in rows if row[0] == "period"}
     named |= {row[3] for row in rows if row[0] == "assay"}
-    touched = named | set(months_of(facts_in(result.changes, result.struck), contents))
+    touched = named | set(touched_months(facts_in(result.changes, result.struck), contents))
     return [month.name for month in contents.months if month.name in touched]
 
 

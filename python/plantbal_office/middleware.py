@@ -1,4 +1,4 @@
-"""What stands around each page: its headers, its size, who may see it, and faults as sentences."""
+"""What each page is wrapped in: its headers, its size, who may see it, and faults as sentences."""
 
 from __future__ import annotations
 
@@ -71,9 +71,9 @@ class Sizes:
         length = request.META.get("CONTENT_LENGTH") or "0"
         most = settings.PLANTBAL_UPLOAD
         if request.method == "POST" and not (length.isdigit() and int(length) <= most + _BESIDE):
-            what = _("this has more than {most:,} bytes, and nothing of it was read")
+            what = _("this is larger than {most:,} bytes, and nothing of it was read")
             fault = Fault(what.format(most=most), remedy=_("send the workbook of one month"))
-            response = said(request, fault, 413)
+            response = fault_page(request, fault, 413)
             response["Connection"] = "close"
             return response
         return self.answer(request)
@@ -97,7 +97,7 @@ class Access:
             return None
         rule = rule_of(match.view_name, request.method or "")
         if rule is None:
-            return said(request, Fault(_("there is nothing of this kind here")), 405)
+            return fault_page(request, Fault(_("there is nothing of this kind here")), 405)
         if rule.scope is Scope.ANYBODY:
             return None
         if not request.user.is_authenticated:
@@ -121,8 +121,8 @@ def _refused(request: HttpRequest, rule: AccessRule, kwargs: dict[str, Any]) -> 
     if rule.allows(roles):
         return None
     wanted = ", ".join(sorted(role.value for role in rule.roles)) or Role.ADMINISTRATOR.value
-    what = _("this is for people with another role: {roles}").format(roles=wanted)
-    return said(request, Fault(what, remedy=_("ask your administrator for it")), 403)
+    what = _("this needs another role: {roles}").format(roles=wanted)
+    return fault_page(request, Fault(what, remedy=_("ask your administrator for it")), 403)
 
 
 class Sentences:
@@ -136,16 +136,16 @@ class Sentences:
 
     def process_exception(self, request: HttpRequest, error: Exception) -> HttpResponse | None:
         """Return the page of a fault; what isn't foreseen stays an error of the server."""
-        fault = fault_of(error)
+        fault = foreseen_fault(error)
         if isinstance(error, (Http404, SuspiciousOperation)):
             return None  # whoever asks is told; it is no error of the server
         if fault is None:
             log.exception("%s: %s", request.path, error)
             return None
-        return said(request, fault, 409 if isinstance(fault, Moved) else 400)
+        return fault_page(request, fault, 409 if isinstance(fault, Moved) else 400)
 
 
-def fault_of(error: BaseException) -> Fault | None:
+def foreseen_fault(error: BaseException) -> Fault | None:
     """Return what is said of an error, or None if it isn't foreseen."""
     if isinstance(error, Fault):
         return error
@@ -154,14 +154,14 @@ def fault_of(error: BaseException) -> Fault | None:
             _("the disk is full, and nothing was booked"), remedy=_("free some space")
         )
     if isinstance(error, MemoryError):
-        return InputFault(_("this takes more memory than there is"), remedy=_("send less of it"))
+        return InputFault(_("there isn't enough memory for this"), remedy=_("send less at a time"))
     if isinstance(error, ModuleNotFoundError):
         library = (error.name or "").partition(".")[0]
         return ToolMissing(library, f"python3-{library}")
     return None
 
 
-def said(request: HttpRequest, fault: Fault, status: int) -> HttpResponse:
+def fault_page(request: HttpRequest, fault: Fault, status: int) -> HttpResponse:
     """Return the page that says a fault."""
     lines = fault.lines if isinstance(fault, Faults) else ()
     since = fault.since if isinstance(fault, Moved) else ()
@@ -171,23 +171,23 @@ def said(request: HttpRequest, fault: Fault, status: int) -> HttpResponse:
 
 def not_found(request: HttpRequest, exception: Exception) -> HttpResponse:
     """Return the page of an address that there isn't."""
-    what = _("there is no such page, or none that you may see")
-    return said(request, Fault(what, remedy=_("begin at the plants")), 404)
+    what = _("there is no such page, or you may not see it")
+    return fault_page(request, Fault(what, remedy=_("start from the list of plants")), 404)
 
 
 def bad_request(request: HttpRequest, exception: Exception) -> HttpResponse:
     """Return the page of a request that can't be read."""
     what = _("this request can't be read, or is longer than any form")
-    return said(request, Fault(what, remedy=_("load the page again")), 400)
+    return fault_page(request, Fault(what, remedy=_("reload the page")), 400)
 
 
 def broken(request: HttpRequest) -> HttpResponse:
     """Return the page of an error that nobody foresaw."""
-    what = _("the desk has had an internal error, and nothing was booked by it")
+    what = _("there was an internal error, and nothing was booked")
     return render(request, "broken.html", {"what": what}, status=500)
 
 
 def csrf_failed(request: HttpRequest, reason: str = "") -> HttpResponse:
     """Return the page of a form that isn't of this sign-in, or of one that has ended."""
-    what = _("your sign-in has ended, or this form is of another one; nothing was booked")
-    return said(request, Fault(what, remedy=_("sign in, and fill the form in again")), 403)
+    what = _("your session has ended, or this form belongs to another one; nothing was booked")
+    return fault_page(request, Fault(what, remedy=_("sign in, and fill the form in again")), 403)

@@ -20,13 +20,14 @@ from wsgiref.simple_server import WSGIRequestHandler, WSGIServer, make_server
 
 from plantbal.faults import Fault
 from plantbal.files import unwritten
+from plantbal_office.warm import warm_meanwhile
 
 HOST = "127.0.0.1"
 SETTINGS = "plantbal_office.settings.desk"
 
 
 def state_folder(named: str | None) -> Path:
-    """Return the folder for what the desk keeps of its own, made if it isn't there."""
+    """Return the folder for the desk's own data, made if it isn't there."""
     base = os.environ.get("XDG_STATE_HOME") or Path.home() / ".local" / "state"
     folder = Path(named) if named else Path(base) / "plantbal" / "desk"
     try:
@@ -112,7 +113,7 @@ class Desk:
             return make_server(HOST, port, application, Threaded, QuietHandler)
         except OSError as error:
             what = f"port {port}: {error.strerror}"
-            raise Fault(what, remedy="leave --port out: then a free one is taken") from error
+            raise Fault(what, remedy="leave out --port, and a free one is used") from error
 
     def address(self, server: WSGIServer) -> str:
         """Return the address with the key."""
@@ -123,13 +124,14 @@ class Desk:
         server = self.server(port)
         address = self.address(server)
         print(f"the desk is at {address}", flush=True)
-        print("Ctrl-C ends it", flush=True)
+        print("Ctrl-C stops it", flush=True)
+        warm_meanwhile()
         if browser:
             webbrowser.open(address)
         try:
             server.serve_forever()
         except KeyboardInterrupt:
-            print("the desk has ended", file=sys.stderr)
+            print("the desk has stopped", file=sys.stderr)
         finally:
             server.server_close()
 

@@ -95,7 +95,9 @@ def given_by(request: HttpRequest) -> tuple[str, str] | None:
     """
     record, signature = _text_of(request, "record"), _text_of(request, "signature")
     if bool(record) != bool(signature):
-        remedy = _("take the text to be signed, sign it by the command shown, and send both files")
+        remedy = _(
+            "download the text to be signed, sign it with the command shown, and send both files"
+        )
         raise Fault(_("this book requires a signature"), remedy=remedy)
     return (record, signature) if signature else None
 
@@ -106,7 +108,7 @@ def _text_of(request: HttpRequest, name: str) -> str:
     if found is None:
         return ""
     if found.size > 1 << 16:
-        raise Fault(_("this isn't a signature"), remedy=_("send the file that ssh-keygen has made"))
+        raise Fault(_("this isn't a signature"), remedy=_("send the file that ssh-keygen wrote"))
     found.seek(0)
     return str(found.read().decode("ascii", "replace"))
 
@@ -142,12 +144,12 @@ def plain_book(plant: Plant) -> Book:
     return Book(plant.folder, program=settings.PLANTBAL_PROGRAM)
 
 
-def contents_of(plant: Plant) -> Contents:
+def book_contents(plant: Plant) -> Contents:
     """Return what is there in the book of a plant."""
     return KEPT.of(Path(plant.folder), "contents", (), plain_book(plant).contents)
 
 
-def facts_of(plant: Plant, period: str) -> MonthFacts:
+def period_facts(plant: Plant, period: str) -> MonthFacts:
     """Return the facts of a period."""
     make = lambda: plain_book(plant).facts(period)  # noqa: E731
     return KEPT.of(Path(plant.folder), "facts", (period,), make)

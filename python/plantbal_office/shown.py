@@ -18,15 +18,23 @@ from django.utils.translation import get_language
 from plantbal.accounts.posting import PostingChange
 from plantbal.book.causes import change_row
 from plantbal.amounts import tonnes_of, tonnes_text
-from plantbal.book.ledger import plain
+from plantbal.book.ledger import number_with_commas
 from plantbal.book.results import ReportState
 from plantbal.faults import Fault
-from plantbal.gates import Stop
+from plantbal.gates import Stop, said_of_stop
 from plantbal_office.access import Role, rule_of
 from plantbal_office.deeds.once import new_key
 from plantbal_office.plants.models import Plant
-from plantbal_office.sentences import change_said, error_said, fact_said, figure, stop_said
-from plantbal_office.shelf import contents_of, plain_book
+from plantbal_office.sentences import (
+    change_said,
+    fact_error,
+    fact_said,
+    fault_said,
+    figure,
+    place_said,
+    said,
+)
+from plantbal_office.shelf import book_contents, plain_book
 
 if TYPE_CHECKING:
     from plantbal_office.enter.grid import GridCell
@@ -54,7 +62,7 @@ def in_language(text: str) -> str:
 def latest_month(plant: Plant) -> str:
     """Return the month whose statement is wanted most: the last one that has a report, or the last."""
     try:
-        months = contents_of(plant).months
+        months = book_contents(plant).months
     except Fault:
         return ""
     reported = [each.name for each in months if each.report is not ReportState.MISSING]
@@ -76,7 +84,7 @@ def m3(millilitres: int | None) -> str:
 @register.filter
 def exact(grams: int | None) -> str:
     """Return grams as tonnes with as many decimals as they have."""
-    return "" if grams is None else in_language(plain(tonnes_of(grams)))
+    return "" if grams is None else in_language(number_with_commas(tonnes_of(grams)))
 
 
 @register.filter
@@ -119,11 +127,14 @@ def moment(text: str) -> str:
 @register.filter
 def stop(found: Stop) -> str:
     """Return what there is to look at before a close, as a sentence."""
-    return stop_said(found)
+    return said(said_of_stop(found))
 
 
+register.filter("said", said)
+register.filter("place", place_said)
+register.filter("fault", fault_said)
 register.filter("fact", fact_said)
-register.filter("error", error_said)
+register.filter("error", fact_error)
 register.filter("change", change_said)
 
 

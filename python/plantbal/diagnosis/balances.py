@@ -21,7 +21,7 @@ from plantbal.model.topology import Arc
 
 if TYPE_CHECKING:
     from plantbal.report.blocks import Block
-    from plantbal.model.studies import MeasuredStream
+    from plantbal.model.studies import StreamMeasurement
 
 # What carries the balance that follows from the others: its number among the sets of nodes.
 GROUND = -1
@@ -135,7 +135,7 @@ class Balances:
         return cls(dict.fromkeys([*(row["name"] for row in block.nodes), *ends]), arcs, values)
 
     @classmethod
-    def of_measured(cls, nodes: Sequence[str], found: Iterable[MeasuredStream]) -> Balances:
+    def of_measured(cls, nodes: Sequence[str], found: Iterable[StreamMeasurement]) -> Balances:
         """Return the balances of what facts give the streams of a period."""
         some = list(found)
         values = {

@@ -15,6 +15,7 @@ from statistics import fmean, pstdev
 from plantbal.diagnosis.balances import Measurement
 from plantbal.diagnosis.evidence import DippedLevel, Evidence
 from plantbal.model.facts import Fact
+from plantbal.sentence import Sentence
 
 
 class ErrorKind(Enum):
@@ -89,16 +90,16 @@ class Candidate:
 NEAR = 3.0
 # What a ticket, a reading or a month's sum may have to be multiplied by.
 UNITS = (
-    UnitMistake("t/h for t/d", 24.0),
-    UnitMistake("t/d for t/h", 1 / 24),
-    UnitMistake("kg for t", 0.001),
-    UnitMistake("t for kg", 1000.0),
-    UnitMistake("a digit too few", 10.0),
-    UnitMistake("a digit too many", 0.1),
-    UnitMistake("m³ for bbl", 6.28981),
-    UnitMistake("bbl for m³", 0.1589873),
-    UnitMistake("short tons for t", 0.90718474),
-    UnitMistake("the sign", -1.0),
+    UnitMistake(Sentence("t/h for t/d"), 24.0),
+    UnitMistake(Sentence("t/d for t/h"), 1 / 24),
+    UnitMistake(Sentence("kg for t"), 0.001),
+    UnitMistake(Sentence("t for kg"), 1000.0),
+    UnitMistake(Sentence("a digit too few"), 10.0),
+    UnitMistake(Sentence("a digit too many"), 0.1),
+    UnitMistake(Sentence("m³ for bbl"), 6.28981),
+    UnitMistake(Sentence("bbl for m³"), 0.1589873),
+    UnitMistake(Sentence("short tons for t"), 0.90718474),
+    UnitMistake(Sentence("the sign"), -1.0),
 )
 BARREL = 0.158987294928  # m3
 # What an unlikely mistake costs at most, a usual one, and one that is always possible.
@@ -117,9 +118,9 @@ def units_of(name: str, evidence: Evidence) -> Iterator[UnitMistake]:
     density = evidence.near_density(name)
     if density is not None:
         own = density / 1e6
-        yield UnitMistake("m³ for t", own)
-        yield UnitMistake("t for m³", 1 / own)
-        yield UnitMistake("bbl for t", BARREL * own)
+        yield UnitMistake(Sentence("m³ for t"), own)
+        yield UnitMistake(Sentence("t for m³"), 1 / own)
+        yield UnitMistake(Sentence("bbl for t"), BARREL * own)
 
 
 def densities_of(name: str, evidence: Evidence) -> Iterator[UnitMistake]:
@@ -129,8 +130,13 @@ def densities_of(name: str, evidence: Evidence) -> Iterator[UnitMistake]:
         return
     for tank, other in evidence.densities.items():
         if abs(other / density - 1) > _SAME_DENSITY:
-            words = f"the density of {tank}'s product, {other / 1000:.0f} kg/m³,"
-            yield UnitMistake(f"{words} for {density / 1000:.0f}", density / other)
+            words = Sentence(
+                "the density of {tank}'s product, {other:.0f} kg/m³, for {own:.0f}",
+                tank=tank,
+                other=other / 1000,
+                own=density / 1000,
+            )
+            yield UnitMistake(words, density / other)
 
 
 def candidates_of(

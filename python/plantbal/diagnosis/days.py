@@ -31,7 +31,7 @@ from plantbal.model.ledger import View, view_of
 from plantbal.model.periods import Period
 from plantbal.model.plant import Stream
 from plantbal.model.state import State
-from plantbal.model.studies import MeasuredStream, measured_in
+from plantbal.model.studies import StreamMeasurement, measured_in
 
 
 @dataclass(frozen=True, slots=True)
@@ -96,7 +96,7 @@ class Days:
     def __init__(self, state: State, view: View) -> None:
         self.state = state
         self.view = view
-        self._measured: dict[Span, tuple[list[str], dict[str, MeasuredStream]]] = {}
+        self._measured: dict[Span, tuple[list[str], dict[str, StreamMeasurement]]] = {}
 
     def spans(self, tanks: Iterable[str]) -> list[Span]:
         """Return the days of the period, those between dips of some tanks taken together."""
@@ -113,7 +113,7 @@ class Days:
         begins = [period.first, *(day + 1 for day in ends[:-1])]
         return [Span(*each) for each in zip(begins, ends)]
 
-    def measured(self, span: Span) -> tuple[list[str], dict[str, MeasuredStream]]:
+    def measured(self, span: Span) -> tuple[list[str], dict[str, StreamMeasurement]]:
         """Return the nodes, and what the facts of a span give the streams.
 
         The error that a stream has in each period is spread over the days of it.
@@ -189,7 +189,7 @@ class Days:
 _Part = tuple[int, float, dict[str, float]]
 
 
-def _but(each: MeasuredStream, others: Collection[str]) -> MeasuredStream:
+def _but(each: StreamMeasurement, others: Collection[str]) -> StreamMeasurement:
     return replace(each, value=None, variance=None) if each.arc.name in others else each
 
 

@@ -91,12 +91,12 @@ class Diagnosis:
 
 def limits_of(block: Block) -> Limits:
     """Return the critical values of a round: the level of its global test serves all others."""
-    from scipy.stats import chi2
+    from scipy.special import chdtrc
 
     level, measure = LEVEL, 0.0
     if block.whole is not None and block.whole["critical"] and block.solved is not None:
         critical, freedom = int(block.whole["critical"]) / 1000, int(block.solved["dof"])
-        level = min(max(float(chi2.sf(critical, max(1, freedom))), _LEVELS[0]), _LEVELS[1])
+        level = min(max(float(chdtrc(max(1, freedom), critical)), _LEVELS[0]), _LEVELS[1])
     values = [row["critical"] for row in block.measure if row["critical"]]
     if values:
         measure = int(values[0]) / 1000
@@ -163,8 +163,8 @@ def told_holes(
     every = {name for hole in holes for name in hole.names}
     for hole in holes:
         others = every - set(hole.names)
-        found = told_of(hole, others, limits, evidence, days)
-        rivals = [told_of(each, others, limits, evidence, days) for each in hole.rivals]
+        found = diagnosed_hole(hole, others, limits, evidence, days)
+        rivals = [diagnosed_hole(each, others, limits, evidence, days) for each in hole.rivals]
         yield _by_days(found, rivals)
 
 
@@ -184,7 +184,7 @@ def _score(told: DiagnosedHole) -> float:
     return told.best.score if told.best is not None else float("-inf")
 
 
-def told_of(
+def diagnosed_hole(
     hole: Hole,
     others: set[str],
     limits: Limits,

@@ -185,7 +185,7 @@ def _reading(name: str, span: Span, fit: Fit, evidence: Evidence) -> Candidate:
         return Candidate(ErrorKind.READING, name, error, _RUN)
     fact = facts[0]
     cost = 1 + amount_cost(fact.grams - error, deviation, others)
-    unit = unit_of(name, fact.grams, error, deviation, evidence)
+    unit = unit_mistake(name, fact.grams, error, deviation, evidence)
     cost = min(cost, _UNIT) if unit else cost
     return Candidate(ErrorKind.READING, name, error, cost, fact=fact, unit=unit)
 
@@ -207,7 +207,7 @@ def _ticket(name: str, span: Span, fit: Fit, evidence: Evidence) -> Candidate:
         found.append(Candidate(ErrorKind.TWICE, name, error, cost, alike=tuple(twins)))
     for fact in facts:
         grams = evidence.amount(fact)
-        unit = unit_of(name, grams, error, deviation, evidence)
+        unit = unit_mistake(name, grams, error, deviation, evidence)
         cost = 1 + amount_cost(grams - error, deviation, amounts)
         cost = min(cost, _UNIT) if unit else cost
         found.append(Candidate(ErrorKind.TICKET, name, error, cost, fact=fact, unit=unit))
@@ -222,7 +222,7 @@ def _alike(grams: float, deviation: float, evidence: Evidence) -> tuple[Fact, ..
     return tuple(sorted(near, key=lambda fact: abs(fact.grams - grams))[:3])
 
 
-def unit_of(
+def unit_mistake(
     name: str, grams: float, error: float, deviation: float, evidence: Evidence
 ) -> UnitMistake | None:
     """Return the unit that explains an error of an amount best, or None."""
@@ -246,7 +246,7 @@ def _of_ratio(
         percent = 100 * fit.factor / left if left > 0 else None
         cost = _MOST if percent is None else min(_MOST, (percent / _PERCENT) ** 2 / 2)
         amount = float(fit.course.shape.sum())
-        unit = unit_of(name, amount, fit.total, fit.total_deviation, evidence)
+        unit = unit_mistake(name, amount, fit.total, fit.total_deviation, evidence)
         kind = ErrorKind.METER if evidence.kind(name) == "metered" else ErrorKind.TICKET
         if abs(left + 1) * amount <= NEAR * fit.total_deviation:
             kind, unit, cost = ErrorKind.REVERSED, None, _UNIT

@@ -172,15 +172,15 @@ class Limits:
 
     def of_period(self, freedom: int) -> float:
         """Return the critical value of the global test."""
-        from scipy.stats import chi2
+        from scipy.special import chdtri
 
-        return float(chi2.isf(self.level, max(1, freedom)))
+        return float(chdtri(max(1, freedom), self.level))
 
     def of_one(self, count: int) -> float:
         """Return the critical value of one of that many tests."""
-        from scipy.stats import chi2
+        from scipy.special import chdtri
 
-        return self.measure or float(chi2.isf(of_each(self.level, max(1, count)), 1))
+        return self.measure or float(chdtri(1, of_each(self.level, max(1, count))))
 
 
 def holes_of(balances: Balances, limits: Limits = Limits()) -> list[Hole]:

@@ -120,7 +120,7 @@ class Proposals:
         if by_balance and not known:
             return by_balance
         some = [each for each in (by_balance, self._by_other_days(name, wanted, known)) if each]
-        return min(some, key=error_of, default=[])
+        return min(some, key=error_of_sum, default=[])
 
     # ---- by the balance
 
@@ -216,6 +216,6 @@ class Proposals:
         return [Proposal(name, tuple(wanted), mean, error, basis, readings=count)]
 
 
-def error_of(some: Sequence[Proposal]) -> float:
+def error_of_sum(some: Sequence[Proposal]) -> float:
     """Return the standard deviation of the sum of proposals, in grams."""
     return sqrt(sum((len(each.days) * each.error) ** 2 for each in some))

@@ -7,7 +7,8 @@ from collections.abc import Sequence
 from plantbal.diagnosis.balances import Balances
 from plantbal.diagnosis.diagnose import Diagnosis
 from plantbal.diagnosis.gross import sets_of_equals
-from plantbal.diagnosis.words import one_of
+from plantbal.diagnosis.words import choice_said
+from plantbal.sentence import Sentence
 from plantbal.report.blocks import Block
 
 
@@ -56,5 +57,5 @@ def one_of_said(names: Sequence[str], block: Block, most: int = 0) -> str:
     """Return a set as a choice; of one name just that, and of a long one the beginning."""
     shown = [block.shown(name) for name in names]
     if most and len(shown) > most:
-        shown = [*shown[: most - 1], f"{len(shown) - most + 1} more"]
-    return one_of(shown)
+        shown = [*shown[: most - 1], Sentence("{count} more", count=len(shown) - most + 1)]
+    return choice_said(shown)

@@ -43,7 +43,7 @@ def diagnoses(
         yield block, diagnosis_of(block, ledger, asked.get(subject))
 
 
-def rows_of(what: str, blocks: Sequence[Block], ledger: Ledger | None) -> Iterator[Row]:
+def diagnosis_rows(what: str, blocks: Sequence[Block], ledger: Ledger | None) -> Iterator[Row]:
     """Give the rows of a table, its head the first."""
     yield HEADS[what]
     make = {"balances": _balances, "holes": _holes, "unseen": _unseen}[what]
@@ -75,7 +75,7 @@ def _holes(block: Block, diagnosis: Diagnosis) -> Iterator[Row]:
             else (abs(best.error), best.deviation)
         )
         amounts = _amount(size), _amount(deviation), f"{told.hole.deviations:.2f}"
-        days = words.days_said(best) if best else ""
+        days = words.finding_days(best) if best else ""
         said = words.candidate_said(best.candidate, block.shown, dated=False) if best else ""
         yield block.subject, str(number), names, *amounts, days, said
 

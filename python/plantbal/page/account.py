@@ -25,6 +25,7 @@ from plantbal.page.statement import (
 from plantbal.page.verdict import Lost, Verdict, names_of, plus_minus, verdict_of, whither
 from plantbal.report.blocks import Block, ReportedWindow, Values, advice_of, blocks_of, designs_of
 from plantbal.report.carried import Impossible, impossible
+from plantbal.sentence import Capital, Sentence, counted, phrase
 
 if TYPE_CHECKING:
     from plantbal.accounts.sheet import SalesUnit
@@ -58,7 +59,7 @@ def declared(row: Values, window: ReportedWindow | None) -> Values:
     return {**row, **names, "side": side, "parts": parts}
 
 
-def line_of(
+def stream_line(
     row: Values,
     statistic: str = "",
     mark: str = "",
@@ -91,7 +92,7 @@ def line_of(
 Contents = tuple[int | None, int | None]
 
 
-def contents_of(ledger: Ledger, seen: Seen) -> dict[str, Contents]:
+def reported_contents(ledger: Ledger, seen: Seen) -> dict[str, Contents]:
     """Return what the tanks of a report held by its dips."""
     if not seen.is_report:
         return {}
@@ -163,7 +164,7 @@ def round_of(
     marks |= {name: "taken" for name in block.taken}
     first = suspects[0] if len(suspects) > 1 else ()
     lines = [
-        line_of(
+        stream_line(
             declared(row, block.window),
             statistics.get(row["name"], ""),
             marks.get(row["name"], ""),
@@ -290,7 +291,9 @@ def account_of(
     for number, some in enumerate(_gather(rows)):
         asked = ledger.seen[number] if ledger is not None else None
         subject = asked.subject if asked is not None else some.subject
-        contents = contents_of(ledger, asked) if ledger is not None and asked is not None else {}
+        contents = (
+            reported_contents(ledger, asked) if ledger is not None and asked is not None else {}
+        )
         diagnosis = diagnosis_of(some.blocks[0], ledger, asked) if some.blocks else None
         diagnosis = diagnosis.sold_in(units) if diagnosis and units else diagnosis
         rounds = []
@@ -330,7 +333,7 @@ def account_of(
 
 def _designs_of(rows: Sequence[Values]) -> list[list[StreamLine]]:
     """Return the designs; in the last one each stream to meter has its cost and its cycle."""
-    found = [[line_of(row) for row in design] for design in designs_of(rows)]
+    found = [[stream_line(row) for row in design] for design in designs_of(rows)]
     meters = {meter["stream"]: meter for meter in advice_of(rows) or ()}
     for at, line in enumerate(found[-1] if found else ()):
         if line.name in meters:
@@ -365,15 +368,17 @@ def _statement(
     wanted = [each for each in findings if each.period == period and each.code in TOLD]
     if wanted:
         names = [each.name for each in wanted if each.code != LATE]
-        have = "has" if len(names) == 1 else "have"
-        what = f"{names_of(names, 2)} {have} no value" if names else "facts come after the report"
+        what = Sentence("facts come after the report")
+        if names:
+            one, many = "{names} has no value", "{names} have no value"
+            what = counted(len(names), one, many, names=names_of(names, 2))
         said = said.but(what, [_sentence(each, reports[-1].last) for each in wanted])
     cant = [each for each in beyond if each.subject == period]
     if cant:
         names = [each.stream for each in cant]
-        flows = "the flow" if len(names) == 1 else "the flows"
-        what = f"{flows} of {names_of(names, 2)} can't be"
-        said = said.but(what, [f"{each.said}." for each in cant])
+        one, many = "the flow of {names} can't be", "the flows of {names} can't be"
+        what = counted(len(names), one, many, names=names_of(names, 2))
+        said = said.but(what, [Sentence("{said}.", said=phrase(each.said)) for each in cant])
     return Statement(number, period, days, state, reports, changes, said)
 
 
@@ -382,8 +387,9 @@ def _unseen(diagnosis: Diagnosis | None, last: Round | None) -> list[str]:
     if diagnosis is None or last is None or last.block.whole is None or not diagnosis.unchecked:
         return []
     names = [last.block.shown(each.name) for each in diagnosis.unchecked]
-    checks = "Nothing checks" + (f" {len(names)} measurements:" if len(names) > 1 else "")
-    return [f"{checks} {names_of(names)}. What each could hide is said below."]
+    one = "Nothing checks {names}. What each could hide is said below."
+    many = "Nothing checks {count} measurements: {names}. What each could hide is said below."
+    return [counted(len(names), one, many, names=names_of(names))]
 
 
 def _sentence(finding: Finding, last: Round | None) -> str:
@@ -392,10 +398,11 @@ def _sentence(finding: Finding, last: Round | None) -> str:
     A name that it begins with stays as it is.
     """
     text = finding.text
-    first = text[:1] if text.startswith(finding.name or " ") else text[:1].upper()
+    said = text if text.startswith(finding.name or " ") else Capital(text)
     worth = {line.name: line.worth for line in last.lines}.get(finding.name) if last else None
-    good = f" (± {plus_minus(worth)} t)" if worth and finding.code == READING else ""
-    return f"{first}{text[1:]}{good}."
+    if worth and finding.code == READING:
+        return Sentence("{said} (± {sd} t).", said=said, sd=plus_minus(worth))
+    return Sentence("{said}.", said=said)
 
 
 def _without_report(period: str, over: str) -> Verdict:

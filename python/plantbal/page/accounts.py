@@ -12,10 +12,10 @@ from plantbal.accounts.tables import (
     basis_text,
     deviation_text,
     sales_text,
-    shown,
+    shown_lines,
     title_of,
 )
-from plantbal.page.render import environment
+from plantbal.page.render import OWN, environment
 
 if TYPE_CHECKING:
     from jinja2 import Environment
@@ -35,12 +35,20 @@ def _environment() -> Environment:
         sales=sales_text,
         basis=basis_text,
         account_title=title_of,
-        shown=lambda table: list(shown(table)),
+        shown=lambda table: list(shown_lines(table)),
     )
     return made
 
 
-def columns_of(tables: Sequence[AccountTable]) -> list[AccountLine]:
+def compile_templates() -> None:
+    """Compile all templates of pages, for whoever will make many in this process."""
+    made = _environment()
+    made.filters.update(dict.fromkeys(OWN, str))
+    for name in made.list_templates(extensions=["j2"]):
+        made.get_template(name)
+
+
+def account_columns(tables: Sequence[AccountTable]) -> list[AccountLine]:
     """Return the lines that some of these accounts have."""
     return [line for line in _COLUMNS if any(line in table.lines for table in tables)]
 
@@ -62,7 +70,9 @@ def part_of(
     from markupsafe import Markup
 
     made: Any = _environment().get_template("account.html.j2").module
-    return Markup(made.part(account, columns_of(account.groups), list(unusual), NOBODY, changed))
+    return Markup(
+        made.part(account, account_columns(account.groups), list(unusual), NOBODY, changed)
+    )
 
 
 def page_of(
@@ -96,8 +106,8 @@ def page_of(
             title=heading,
             account=account,
             owner=owner,
-            columns=columns_of(account.groups),
-            product_columns=columns_of(account.products),
+            columns=account_columns(account.groups),
+            product_columns=account_columns(account.products),
             unusual=list(unusual),
             changed=changed,
             nobody=NOBODY,

@@ -11,7 +11,7 @@ from dataclasses import dataclass, field
 from typing import Any
 
 from plantbal.accounts.account import MonthAccount, Rolled
-from plantbal.book.accounting import accounts_of, months_of, unusual_of, versions_of
+from plantbal.book.accounting import accounts_of, report_months, unusual_of, versions_of
 from plantbal.book.difference import difference_of, has_before
 from plantbal.book.store import Store
 from plantbal.page.accounts import part_of
@@ -37,7 +37,7 @@ class FromBook:
     said: list[str] = field(default_factory=list)
 
 
-def booked(folder: str | None, rows: Sequence[Values]) -> FromBook:
+def booked(folder: str | None, rows: Sequence[Values], digest: str = "") -> FromBook:
     """Return what a book adds to a page.
 
     Parameters
@@ -46,6 +46,9 @@ def booked(folder: str | None, rows: Sequence[Values]) -> FromBook:
         The book's folder; None if none is named.
     rows : sequence of dict
         The rows of the output that the page is made of.
+    digest : str
+        The SHA-256 of the text that they were read from, if it is known: the report of that digest
+        isn't read again.
     """
     found = FromBook()
     if folder is None:
@@ -59,7 +62,8 @@ def booked(folder: str | None, rows: Sequence[Values]) -> FromBook:
         there = {name: block for name, block in blocks.items() if name in versions}
         if not there:
             return found
-        rolled = Rolled(months_of(book, versions), accounts_of(book))
+        read = {digest: blocks} if digest else {}
+        rolled = Rolled(report_months(book, versions, read), accounts_of(book))
         for name, block in there.items():
             month = rolled.months[rolled.at(name)]
             if month.block is None or month.block.streams != block.streams:

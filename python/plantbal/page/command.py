@@ -11,18 +11,19 @@ from pathlib import Path
 from typing import TYPE_CHECKING
 
 from plantbal import limits
-from plantbal.audit.linked import named_book
+from plantbal.audit.believed import require_believed
+from plantbal.audit.linked import named_book, was_in
 from plantbal.commands.options import add_timeout
 from plantbal.faults import Fault, InputFault, Place, WordsFault
 from plantbal.files import write_text
 from plantbal.forms import read_session, session_to_run
 from plantbal.model.ledger import Ledger
 from plantbal.page.account import account_of
-from plantbal.page.books import booked
+from plantbal.page.books import FromBook, booked
 from plantbal.page.gates import (
     ClosingNotes as BookTold,
-    gates_of,
-    told_of,
+    closing_notes,
+    period_gates,
     with_gates,
     without_gates,
 )
@@ -32,8 +33,9 @@ from plantbal.page.measured import measured_on
 from plantbal.page.render import render
 from plantbal.page.statement import Prepared, ShownRefusal, Worth
 from plantbal.page.typed import with_typed
+from plantbal.records import Record
 from plantbal.report.blocks import Values, blocks_of, last_blocks
-from plantbal.report.parsing import csv_of, read_rows
+from plantbal.report.parsing import csv_fields, csv_of, read_rows
 from plantbal.report.judged import judge_rows
 from plantbal.schema import schema
 from plantbal.statuses import looks
@@ -105,16 +107,16 @@ def worth_of(rows: Sequence[Values]) -> tuple[dict[tuple[int, str], Worth], str]
         The worth by the number of the block and the name of the stream; and why there is none,
         empty if there is.
     """
-    from plantbal.study.uncertainty import uncertainty_of
+    from plantbal.study.uncertainty import flows_known
 
     last = last_blocks(blocks_of(rows))
     try:
-        table = uncertainty_of(last.values())
+        table = flows_known(last.values())
     except Fault as fault:
         return {}, str(fault)
     found = {}
     shown = {block.number: block.shown for block in last.values()}
-    for row in table.itertuples():
+    for row in table:
         gain = None if row.gain != row.gain else float(row.gain)
         meters = [(row.first, row.first_share), (row.second, row.second_share)]
         meters.append((row.third, row.third_share))
@@ -175,7 +177,7 @@ def prepare(source: Source) -> Prepared:
     account = account_of(
         source.rows, ledger=ledger, refused=refused, findings=heard, worth=worth, units=units
     )
-    gates = gates_of(ledger, blocks_of(source.rows), source.told)
+    gates = period_gates(ledger, blocks_of(source.rows), source.told)
     statements = [with_gates(each, gates) for each in account.statements]
     account = replace(account, statements=statements, gates=gates, quieted=len(quiet))
     return Prepared(account, told, why, more, grades_on(account, ledger))
@@ -222,10 +224,11 @@ def _check_facts(name: str, ledger: Ledger, source: Source) -> None:
     InputFault
         If it is so: edits and dips of the session would stand beside flows that don't have them.
     """
-    from plantbal.audit.held import answers_of, pairs_of
+    from plantbal.audit.held import answers_in, pairs_of
     from plantbal.model.studies import studies_of
 
-    answers = answers_of(csv_of(source.rows).encode("utf-8"))
+    records = (Record(n, n, tuple(csv_fields(row))) for n, row in enumerate(source.rows, 1))
+    answers = answers_in(records)
     for pair in pairs_of(studies_of(ledger), answers):
         differs = next(pair.differ(), None)
         if differs is not None:
@@ -295,6 +298,9 @@ def _source(options: argparse.Namespace) -> tuple[Source, Output | None, Path | 
             )
         name = "standard input" if options.output == "-" else options.output
         rows = read_rows(options.output)
+        judge_rows(rows, name)
+        remedy = "no statement is made of it: plantbal-desk explain shows each row that is wrong"
+        require_believed(csv_of(rows).encode("utf-8"), name, remedy=remedy)
         session = None if options.session is None else read_session(options.session)
         return Source(rows, name, session), None, None
     if options.session is not None:
@@ -316,18 +322,34 @@ def _source(options: argparse.Namespace) -> tuple[Source, Output | None, Path | 
     return source, output, program
 
 
+def _is_of_book(folder: str | None, source: Source, added: FromBook) -> bool:
+    """Say whether a page is of a book, whose head it names; if it isn't, that is said too."""
+    if folder is None:
+        return False
+    if source.session is None:
+        is_of, name = bool(added.accounts) and not added.said, source.name
+    else:
+        is_of, name = was_in(folder, source.session[1]), source.session[0]
+    if not is_of:
+        added.said.append(
+            f"{name} isn't of {folder}, so the page doesn't name the head of that book"
+        )
+    return is_of
+
+
 def run(options: argparse.Namespace) -> int:
     """Write the page, the workbook and the PDF."""
     source, output, program = _source(options)
-    prepared = prepare(replace(source, told=told_of(options.book)))
+    added = booked(options.book, source.rows)
+    is_of = _is_of_book(options.book, source, added)
+    prepared = prepare(replace(source, told=closing_notes(options.book if is_of else None)))
     account = with_typed(prepared.account, options.book)
     measured = measured_on(options.book, source.session, account.ledger, account)
     prepared = replace(prepared, account=account, measured=measured)
     plant = options.plant
     if not plant and source.session is not None and source.session[0] != "standard input":
         plant = Path(source.session[0]).stem
-    book = " ".join(named_book(options.book).values())
-    added = booked(options.book, source.rows)
+    book = " ".join(named_book(options.book if is_of else None).values())
     origin = Origin(plant, source.session[0] if source.session else "", program, book)
     if options.out or options.pdf or not options.xlsx:
         text = render(

@@ -12,6 +12,7 @@ from plantbal.diagnosis.balances import Balance
 from plantbal.diagnosis.diagnose import DiagnosedHole
 from plantbal.diagnosis.unseen import Unchecked
 from plantbal.page.statement import ShownReport, Statement
+from plantbal.sentence import Figure, Joined, Sentence
 
 # How many balances that don't close are shown.
 MOST_BALANCES = 8
@@ -52,10 +53,12 @@ def percents(balance: Balance, report: ShownReport) -> str:
     """Return what a balance is off by in percent of each stream through it."""
     shown = shown_by(report)
     some = sorted(balance.percents().items(), key=lambda each: each[1])
-    parts = [f"{shown(name)} {words.percent_text(part)}" for name, part in some]
-    more = len(parts) - words.MOST_THROUGH
-    tail = f" and {more} more" if more > 0 else ""
-    return ", ".join(parts[: words.MOST_THROUGH]) + tail
+    parts = [
+        Sentence("{name} {percent}", name=shown(name), percent=words.percent_text(part))
+        for name, part in some
+    ]
+    first, more = Joined(", ", parts[: words.MOST_THROUGH]), len(parts) - words.MOST_THROUGH
+    return Sentence("{names} and {count} more", names=first, count=more) if more > 0 else first
 
 
 SHEET = ("period", "what", "where", "amount, t", "±, t", "in sd", "days", "in words")
@@ -74,9 +77,9 @@ def _rows(period: str, report: ShownReport) -> Iterator[tuple[str | float | Deci
         amounts = tonnes_of(balance.grams), sure, balance.deviations
         yield period, "doesn't close", where, *amounts, None, percents(balance, report)
     for hole in holes(report):
-        where, best = words.one_of([shown(name) for name in hole.names]), hole.best
+        where, best = words.choice_said([shown(name) for name in hole.names]), hole.best
         amounts = _whole(hole.hole.size), _whole(hole.hole.deviation), hole.hole.deviations
-        days = words.days_said(best) if best else None
+        days = words.finding_days(best) if best else None
         yield period, "one of", where, *amounts, days, words.hole_said(hole.hole, shown, hole.units)
         for line in told(hole, report):
             yield period, "what it may be", where, None, None, None, None, line
@@ -99,5 +102,5 @@ FILTERS = {
     "hole_said": lambda each, report: words.hole_said(each.hole, shown_by(report), each.units),
     "nodes_said": lambda each, report: words.nodes_said(each.nodes, shown_by(report)),
     "unchecked_said": lambda each, report: words.unchecked_said(each, shown_by(report)),
-    "net": lambda balance: ("+" if balance.grams > 0 else "") + tonnes_text(balance.grams),
+    "net": lambda balance: Figure(("+" if balance.grams > 0 else "") + tonnes_text(balance.grams)),
 }

@@ -11,6 +11,7 @@ from plantbal.faults import Fault
 from plantbal.model.topology import Arc
 from plantbal.page.layout import Box, Layout, Plan, Point, Route, layout_of, near, plan_of
 from plantbal.page.statement import StreamLine
+from plantbal.sentence import Figure, Sentence
 
 # Above this many streams the neighbourhood of one is drawn.
 MOST = 60
@@ -90,11 +91,11 @@ class Drawing:
 def figure_of(line: StreamLine) -> str:
     """Return the tonnes below a stream's name, or what its meter costs; nothing without both."""
     if line.cost is not None:
-        return f"meter: {line.cost:,}"
+        return Sentence("meter: {cost:,}", cost=line.cost)
     if line.flow is None:
         return ""
     sign = "+" if line.is_tank and line.flow > 0 else ""
-    return f"{sign}{tonnes_text(line.flow)} t"
+    return Figure(f"{sign}{tonnes_text(line.flow)} t")
 
 
 def arcs_of(lines: Iterable[StreamLine]) -> list[Arc]:

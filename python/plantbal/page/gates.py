@@ -10,9 +10,10 @@ from collections.abc import Iterable, Mapping, Sequence
 from dataclasses import dataclass, field, replace
 from typing import TYPE_CHECKING
 
-from plantbal.gates import Gate, Stop, remedy_of, said_of, stops_of
+from plantbal.gates import Gate, Stop, remedy_of_stop, said_of_stop, stops_of
 from plantbal.model.ledger import Ledger
 from plantbal.report.blocks import Block
+from plantbal.sentence import Day, Sentence
 
 if TYPE_CHECKING:
     from plantbal.accounts.sheet import SalesUnit
@@ -74,7 +75,7 @@ class PeriodGates:
         return bool(self.when)
 
 
-def told_of(folder: str | None) -> ClosingNotes:
+def closing_notes(folder: str | None) -> ClosingNotes:
     """Return what the book in a folder tells; nothing without a folder.
 
     Raises
@@ -98,7 +99,7 @@ def told_of(folder: str | None) -> ClosingNotes:
     return ClosingNotes(closes, quieted(journal), units)
 
 
-def gates_of(
+def period_gates(
     ledger: Ledger, blocks: Sequence[Block], told: ClosingNotes = ClosingNotes()
 ) -> dict[str, PeriodGates]:
     """Return the gates of each period that a report is asked of.
@@ -122,25 +123,27 @@ def _of_period(stops: Iterable[Stop], period: str, told: ClosingNotes) -> Period
     """Return the gates of a period."""
     close = told.closes.get(period)
     reasons = close.reasons if close is not None else {}
-    kept, quiet = [], []
+    kept: list[Stop] = []
+    quiet: list[str] = []
     for stop in stops:
         by = next((each for each in told.quiets if each.takes(stop.gate, stop.of)), None)
         if by is None:
             kept.append(stop)
         else:
-            quiet.append(f"{said_of(stop)}: {by.why} ({by.who}, {by.when[:10]})")
+            words = {"why": by.why, "who": by.who, "day": Day(by.when[:10])}
+            quiet.append(Sentence("{said}: {why} ({who}, {day})", said=said_of_stop(stop), **words))
     shown = [
-        ShownGate(stop.gate, said_of(stop), remedy_of(stop), reasons.get(stop.gate, ""))
+        ShownGate(stop.gate, said_of_stop(stop), remedy_of_stop(stop), reasons.get(stop.gate, ""))
         for stop in kept
     ]
     who, when = (close.who, close.when) if close is not None and reasons else ("", "")
     return PeriodGates(shown, kept, quiet, who, when)
 
 
-def estimated(found: PeriodGates | None) -> dict[str, str]:
+def estimates_said(found: PeriodGates | None) -> dict[str, str]:
     """Return what is said of the estimates of a period, by their streams."""
     stops = found.stops if found is not None else []
-    return {stop.names[0]: said_of(stop) for stop in stops if stop.gate is Gate.ESTIMATED}
+    return {stop.names[0]: said_of_stop(stop) for stop in stops if stop.gate is Gate.ESTIMATED}
 
 
 def with_gates(statement: Statement, gates: Mapping[str, PeriodGates]) -> Statement:
@@ -149,10 +152,12 @@ def with_gates(statement: Statement, gates: Mapping[str, PeriodGates]) -> Statem
     stops = [] if found is None else [stop for stop in found.stops if stop.gate in _SAYS_MORE]
     if not stops or not statement.is_of_period:
         return statement
-    sentences = [f"{said_of(stop)}." for stop in stops[:_MOST]]
-    sentences += [f"{len(stops) - _MOST} more are below."] if len(stops) > _MOST else []
-    names = next((stop.of[0] for stop in stops if stop.of), "the readings")
-    return replace(statement, verdict=statement.verdict.but(f"look at {names}", sentences))
+    sentences: list[str] = [Sentence("{said}.", said=said_of_stop(stop)) for stop in stops[:_MOST]]
+    if len(stops) > _MOST:
+        sentences.append(Sentence("{count} more are below.", count=len(stops) - _MOST))
+    name = next((stop.of[0] for stop in stops if stop.of), "")
+    at = Sentence("look at {name}", name=name) if name else Sentence("look at the readings")
+    return replace(statement, verdict=statement.verdict.but(at, sentences))
 
 
 def without_gates(findings: Iterable[Finding]) -> list[Finding]:

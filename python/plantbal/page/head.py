@@ -80,7 +80,7 @@ def size_text(account: PageContents) -> str:
     return ", ".join(count_of(*each) for each in counts if each[0])
 
 
-def head_of(account: PageContents, origin: Origin) -> list[tuple[str, str, str]]:
+def head_terms(account: PageContents, origin: Origin) -> list[tuple[str, str, str]]:
     """Return the terms of a head, each with its text and its class."""
     plant = ": ".join(part for part in (origin.plant, size_text(account)) if part)
     found = [("Plant", plant, "")]

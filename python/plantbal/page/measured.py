@@ -21,6 +21,7 @@ from plantbal.model.forms import day_number
 from plantbal.model.ledger import Ledger
 from plantbal.page.account import NO_BREAK
 from plantbal.page.statement import PageContents, Statement
+from plantbal.page.summed import SummedPart, SummedReading, summed_of_book, summed_part
 from plantbal.volumes.factor import OWN_TABLE
 from plantbal.volumes.trail import HEADS, Trail
 
@@ -145,17 +146,26 @@ class MeasuredPart:
         Those that are shown: first what its balance rests on, then the dips of other days.
     more : int
         How many others there are.
+    summed : SummedPart
+        The readings that were made of hours.
     """
 
     facts: list[MeasuredFact] = field(default_factory=list)
     more: int = 0
+    summed: SummedPart = SummedPart()
 
-    def place(self, of: str, day: int | None = None) -> int | None:
-        """Return the place of the first fact of a stream, or of a tank's dip of a day."""
+    def place(self, of: str, day: int | None = None) -> str:
+        """Return the mark of the first fact of a stream, or of a tank's dip of a day; or nothing.
+
+        It is `m` and the place of a mass, or `h` and that of a reading that was made of hours.
+        """
         for at, each in enumerate(self.facts):
             if each.fact.of == of and day in (None, each.fact.last):
-                return at
-        return None
+                return f"m{at}"
+        for at, reading in enumerate(self.summed.readings):
+            if reading.fact.of == of and day is None:
+                return f"h{at}"
+        return ""
 
 
 def measured_on(
@@ -182,7 +192,8 @@ def measured_on(
     if session is None or ledger is None:
         return {}
     trails = {(each.row, each.fact): each for each in trails_of_session(book, session[1])}
-    if not trails:
+    summed = summed_of_book(book, ledger.state.facts)
+    if not trails and not summed:
         return {}
     rows = rows_of_session(session[1])
     found = []
@@ -191,10 +202,13 @@ def measured_on(
         if trail is not None and not fact.struck:
             found.append(MeasuredFact(fact, trail, differs(trail, rows)))
     periods = [each for each in page.statements if each.is_of_period and each.days]
-    return {each.period: part for each in periods if (part := _part(each, found)).facts}
+    parts = {each.period: _part(each, found, summed) for each in periods}
+    return {name: part for name, part in parts.items() if part.facts or part.summed.readings}
 
 
-def _part(statement: Statement, found: Sequence[MeasuredFact]) -> MeasuredPart:
+def _part(
+    statement: Statement, found: Sequence[MeasuredFact], summed: Sequence[SummedReading]
+) -> MeasuredPart:
     """Return the facts of a period, those first on which its balance rests."""
     first, last = (day_number(text) or 0 for text in statement.days or ("", ""))
     own: list[tuple[bool, str, int, str, MeasuredFact]] = []
@@ -206,7 +220,7 @@ def _part(statement: Statement, found: Sequence[MeasuredFact]) -> MeasuredPart:
             own.append((is_between, fact.of, fact.first, fact.id, each))
     own.sort(key=lambda each: each[:4])
     shown = [each[-1] for each in own[: limits.MEASURED_SHOWN]]
-    return MeasuredPart(shown, len(own) - len(shown))
+    return MeasuredPart(shown, len(own) - len(shown), summed_part(summed, first, last))
 
 
 def measured_sheet(

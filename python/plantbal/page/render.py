@@ -3,7 +3,9 @@
 from __future__ import annotations
 
 import re
-from collections.abc import Iterable, Mapping, Sequence
+from collections.abc import Callable, Iterable, Iterator, Mapping, Sequence
+from contextlib import contextmanager
+from contextvars import ContextVar
 from math import sqrt
 from types import MappingProxyType
 from typing import TYPE_CHECKING, Any
@@ -16,21 +18,22 @@ from plantbal.model.ledger import Ledger
 from plantbal.page import diagnosed, gates
 from plantbal.page.drawing import KINDS, Draftsman
 from plantbal.page.grades import real
-from plantbal.page.head import Origin, days_text, head_of
+from plantbal.page.head import Origin, days_text, head_terms
 from plantbal.page.spark import spark
+from plantbal.page.spoken import SpokenPage
 from plantbal.page.statement import PageContents, Prepared, Round, Statement, StreamLine
 from plantbal.page.verdict import plus_minus, thousandths
+from plantbal.sentence import ENGLISH, Figure, Language, Sentence
 
 if TYPE_CHECKING:
     from plantbal.balance.grades import Grade
     from jinja2 import Environment
+    from jinja2.bccache import Bucket
 
     from plantbal.explain import ExplainedRow
 
 # How many items of a long list are shown, and how many without a click.
 MOST, FEW = 100, 5
-# How many letters of a certificate are shown: in a large plant each may have thousands of members.
-MOST_LETTERS = 1_000
 # Grams: an amount from here on has nine digits of tonnes.
 HUGE = 10**14
 # How many letters wide a name may be.
@@ -39,26 +42,28 @@ LONGEST = 14
 
 def tonnes(grams: int | None) -> str:
     """Return grams as tonnes; nothing if there are none."""
-    return "" if grams is None else tonnes_text(grams)
+    return "" if grams is None else Figure(tonnes_text(grams))
 
 
-def signed(grams: int | None) -> str:
+def signed_tonnes(grams: int | None) -> str:
     """Return grams as tonnes with their sign."""
     text = tonnes(grams)
-    return f"+{text}" if grams is not None and grams > 0 and text.strip("0.,") else text
+    return Figure(f"+{text}") if grams is not None and grams > 0 and text.strip("0.,") else text
 
 
-def decimal(number: float | None, places: int, plus: bool = False) -> str:
+def with_places(number: float | None, places: int, plus: bool = False) -> str:
     """Return a number with that many decimals."""
     if number is None:
         return ""
     text = f"{number:{'+' if plus else ''},.{places}f}"
-    return text[1:] if float(text.replace(",", "")) == 0 and text[0] in "+-" else text
+    return Figure(text[1:] if float(text.replace(",", "")) == 0 and text[0] in "+-" else text)
 
 
 def end_of(pair: tuple[int, int] | None, which: int) -> str:
     """Return an end of bounds in tonnes, rounded outward."""
-    return "" if pair is None else tonnes_text(pair[which], toward=("down", "up")[which])
+    if pair is None:
+        return ""
+    return Figure(tonnes_text(pair[which], toward=("down", "up")[which]))
 
 
 def soft(name: str) -> Any:
@@ -82,50 +87,16 @@ def way_of(line: StreamLine, crossings: Mapping[str, str]) -> Any:
 
 def ends_of(line: StreamLine) -> Any:
     """Return the ends of a line as attributes of its row, which the drawing is made of."""
-    from markupsafe import Markup
-
-    return Markup('data-from="{}" data-to="{}"').format(line.from_, line.to)
-
-
-def worded(text: str) -> Any:
-    """Return a text, none of its days broken, and what is typed as code in place of its marks."""
     from markupsafe import Markup, escape
 
-    text = re.sub(r"\b\d{4}-\d\d-\d\d\b", r'<span class="day">\g<0></span>', str(escape(text)))
-    return Markup(re.sub("`([^`]+)`", r"<code>\1</code>", text))
+    return Markup(f'data-from="{escape(line.from_)}" data-to="{escape(line.to)}"')
 
 
-def day_spans(days: tuple[str, str] | None) -> Any:
-    """Return the days of a period, none of them broken."""
+def near_mark(name: str) -> Any:
+    """Return a name that a script may put another in place of."""
     from markupsafe import Markup
 
-    if days is None:
-        return ""
-    each = Markup('<span class="day">{}</span>')
-    return Markup("<span>{}</span>").format(
-        Markup(" to ").join(each.format(day) for day in dict.fromkeys(days))
-    )
-
-
-def _some(text: str, kind: str) -> Any:
-    """Return the names of a list, no sign parted from its name, and how many more there are."""
-    from markupsafe import Markup, escape
-
-    shown = text
-    if len(text) > MOST_LETTERS:
-        shown = text[: text.rfind(" ", 0, MOST_LETTERS)] if " " in text[:MOST_LETTERS] else text
-    more = text.count(" ") - shown.count(" ")
-    names = str(escape(shown)).replace(" ", "</span> <span>")
-    rest = f" … and {more:,} more" if more else ""
-    return Markup(f'<span class="{kind}"><span>{names}</span></span>{rest}')
-
-
-def certificate(line: StreamLine) -> Any:
-    """Return the certificate of a stream's class; of a long one the beginning."""
-    from markupsafe import Markup
-
-    side = Markup(" round {}").format(_some(line.side, "side")) if line.side else ""
-    return Markup("{}{}: {}").format(line.shape, side, _some(line.parts, "parts"))
+    return Markup('<b class="near">{}</b>').format(name)
 
 
 def is_huge(lines: Iterable[StreamLine]) -> bool:
@@ -177,8 +148,9 @@ def marked(told: ExplainedRow) -> Any:
 def lines_text(under: Sequence[ExplainedRow]) -> str:
     """Return the lines of rows that follow from another."""
     numbers = [str(told.line) for told in under[:12]]
-    more = f" and {len(under) - 12} more" if len(under) > 12 else ""
-    return ", ".join(numbers) + more
+    if len(under) <= 12:
+        return ", ".join(numbers)
+    return Sentence("{names} and {count} more", names=", ".join(numbers), count=len(under) - 12)
 
 
 def marks(lines: Iterable[StreamLine]) -> dict[str, Any]:
@@ -206,9 +178,9 @@ def critical(statement: Statement) -> str:
 
 
 def _grade_unit(grades: Sequence[Grade]) -> tuple[str, float]:
-    from plantbal.balance.grades import unit_of
+    from plantbal.balance.grades import unit_of_grades
 
-    return unit_of(grades)
+    return unit_of_grades(grades)
 
 
 def by_name(found: Round | None) -> dict[str, StreamLine]:
@@ -216,38 +188,71 @@ def by_name(found: Round | None) -> dict[str, StreamLine]:
     return {line.name: line for line in found.lines} if found else {}
 
 
-def environment() -> Environment:
-    """Return the templates with their filters."""
+# The filters that each page has of its own.
+OWN = ("gates", "measured", "way", "apart")
+# The language in which pages are made.
+_LANGUAGE: ContextVar[Language] = ContextVar("language", default=ENGLISH)
+
+
+@contextmanager
+def speaking(language: Language) -> Iterator[None]:
+    """Make pages in a language."""
+    token = _LANGUAGE.set(language)
     try:
-        from jinja2 import Environment, PackageLoader, StrictUndefined
+        yield
+    finally:
+        _LANGUAGE.reset(token)
+
+
+# The templates as they were compiled in this process, by their keys.
+_COMPILED: dict[str, bytes] = {}
+
+
+def environment() -> Environment:
+    """Return the templates with their filters; each is compiled once in a process."""
+    try:
+        from jinja2 import BytecodeCache, Environment, PackageLoader, StrictUndefined
     except ImportError as error:
         raise ToolMissing("jinja2", "python3-jinja2") from error
+
+    class Compiled(BytecodeCache):
+        """The compiled templates of this process."""
+
+        def load_bytecode(self, bucket: Bucket) -> None:
+            """Give a template that was compiled before."""
+            if bucket.key in _COMPILED:
+                bucket.bytecode_from_string(_COMPILED[bucket.key])
+
+        def dump_bytecode(self, bucket: Bucket) -> None:
+            """Keep a template that was compiled."""
+            _COMPILED[bucket.key] = bucket.bytecode_to_string()
+
+    spoken = SpokenPage(_LANGUAGE.get())
     made = Environment(
+        bytecode_cache=Compiled(),
         loader=PackageLoader("plantbal.page"),
         autoescape=True,
         undefined=StrictUndefined,
+        finalize=spoken.shown,
         trim_blocks=True,
         lstrip_blocks=True,
     )
     made.filters.update(
         t=tonnes,
-        signed=signed,
-        dec=decimal,
+        signed=signed_tonnes,
+        dec=with_places,
         pm=plus_minus,
         end=end_of,
         sign=sign_of,
         soft=soft,
-        words=worded,
+        near=near_mark,
         ends=ends_of,
-        day_spans=day_spans,
         kind_sign=lambda name: KINDS[name].sign,
         f=lambda number: f"{number:.1f}",
         fact=fact_text,
         days=fact_days,
         from_to=days_text,
         is_huge=is_huge,
-        certificate=certificate,
-        some=_some,
         marked=marked,
         lines=lines_text,
         marks=marks,
@@ -257,10 +262,12 @@ def environment() -> Environment:
         spark=spark,
         real=real,
         grade_unit=_grade_unit,
-        estimated=gates.estimated,
+        estimated=gates.estimates_said,
         day_number=day_number,
         **diagnosed.FILTERS,
+        **spoken.filters(),
     )
+    made.globals["_"] = spoken.text
     return made
 
 
@@ -271,6 +278,7 @@ def render(
     origin: Origin = Origin(),
     seconds: float = 10,
     parts: Mapping[str, Any] = MappingProxyType({}),
+    apart: Callable[[str], Any] = lambda text: text,
 ) -> str:
     """Return the page of an account.
 
@@ -286,6 +294,9 @@ def render(
         How long the layout of its drawings may take; 0 is none.
     parts : mapping of str to Markup
         What stands below the verdicts of periods, such as their accounts.
+    apart : callable
+        What stands in place of a report's bounds and certificates, which in a large plant are most
+        of the page: they themselves, or what leads to them.
     """
     account = prepared.account
     rounds = [each.report.last.lines for each in account.statements if each.report.last]
@@ -297,14 +308,16 @@ def render(
     designs = account.designs[-1:] if account.is_advised or not rounds else []
     made = environment()
     crossings = account.ledger.state.plant.crossings() if account.ledger is not None else {}
-    made.filters["gates"] = (
-        lambda each: account.gates.get(each.period) if each.is_of_period else None
+    own = (
+        lambda each: account.gates.get(each.period) if each.is_of_period else None,
+        lambda each: prepared.measured.get(each.period),
+        lambda line: way_of(line, crossings),
+        apart,
     )
-    made.filters["measured"] = lambda each: prepared.measured.get(each.period)
-    made.filters["way"] = lambda line: way_of(line, crossings)
+    made.filters.update(zip(OWN, own))
     return made.get_template("page.html.j2").render(
         title=title or default_title(account, origin),
-        head=head_of(account, origin),
+        head=head_terms(account, origin),
         told=prepared.told,
         why_no_worth=prepared.why_no_worth,
         more=prepared.more,

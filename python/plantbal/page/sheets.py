@@ -1,4 +1,4 @@
-"""The statement as a workbook: one table a sheet, amounts in tonnes as numbers."""
+"""The statement as a workbook: one table per sheet, amounts in tonnes as numbers."""
 
 from __future__ import annotations
 
@@ -13,8 +13,8 @@ from plantbal.balance.grades import table_of
 from plantbal.faults import ToolMissing
 from plantbal.files import replacing
 from plantbal.inert import store
-from plantbal.page import diagnosed, measured
-from plantbal.page.head import Origin, head_of
+from plantbal.page import diagnosed, measured, summed
+from plantbal.page.head import Origin, head_terms
 from plantbal.page.statement import PageContents, Prepared, Round, Statement, StreamLine
 
 if TYPE_CHECKING:
@@ -193,7 +193,8 @@ def write_workbook(
     except ImportError as error:
         raise ToolMissing("openpyxl", "python3-openpyxl") from error
     account = prepared.account
-    head: list[Row] = [(term, text) for term, text, _ in head_of(account, origin)]
+    head: list[Row] = [(term, text) for term, text, _ in head_terms(account, origin)]
+    made_of_hours = {name: part.summed for name, part in prepared.measured.items()}
     tables: dict[str, tuple[Row, Sequence[Row]]] = {
         "head": (("what", "which"), head),
         "periods": periods(account),
@@ -201,6 +202,7 @@ def write_workbook(
         "tanks": tanks(account),
         "grades": table_of(prepared.grades),
         "measured": (measured.SHEET, list(measured.measured_sheet(prepared.measured))),
+        "summed": (summed.SHEET, list(summed.summed_sheet(made_of_hours))),
         "bounds": bounds(account),
         "diagnosis": (diagnosed.SHEET, diagnosed.sheet(account.statements)),
         "edits": edits(account),

@@ -9,6 +9,7 @@ from typing import TYPE_CHECKING
 
 from plantbal.diagnosis.rounds import one_of_said
 from plantbal.report.blocks import Block
+from plantbal.sentence import Figure, Joined, Sentence, counted, phrase
 
 if TYPE_CHECKING:
     from plantbal.page.statement import StreamLine, Worth
@@ -53,8 +54,9 @@ class Verdict:
         """Return it with something that needs a look: in a few words, and in sentences."""
         if self.level not in ("good", "plain"):
             return replace(self, reasons=[*self.reasons, *more])
-        joined = "but" if self.level == "good" else "and"
-        return Verdict("look", f"{self.headline}, {joined} {what}", [*self.reasons, *more])
+        form = "{headline}, but {what}" if self.level == "good" else "{headline}, and {what}"
+        headline = Sentence(form, headline=phrase(self.headline), what=what)
+        return Verdict("look", headline, [*self.reasons, *more])
 
 
 @dataclass(frozen=True, slots=True)
@@ -82,21 +84,26 @@ class Lost:
     @property
     def reasons(self) -> list[str]:
         """The same in sentences."""
-        said = []
+        said: list[str] = []
         if self.lacking:
-            rows = count_of(self.lacking, "row was refused", "rows were refused")
-            it = "it" if self.lacking == 1 else "them"
-            without = f"which was made without {it}: correct {it} first."
-            said.append(f"{rows} before this report, {without}")
+            one = (
+                "1 row was refused before this report, which was made without it: correct it first."
+            )
+            many = (
+                "{count:,} rows were refused before this report, which was made without them: "
+                "correct them first."
+            )
+            said.append(counted(self.lacking, one, many))
         if self.passed:
-            rows = count_of(self.passed, "row was refused", "rows were refused")
-            said.append(f"{rows} as being there already, or as touching a closed period.")
+            one = "1 row was refused as already there, or as touching a closed period."
+            many = "{count:,} rows were refused as already there, or as touching a closed period."
+            said.append(counted(self.passed, one, many))
         return said
 
 
 def thousandths(text: str) -> str:
     """Return thousandths as a decimal number."""
-    return f"{int(text) / 1000:,.3f}" if text else ""
+    return Figure(f"{int(text) / 1000:,.3f}") if text else ""
 
 
 def plus_minus(worth: Worth | None) -> str:
@@ -105,15 +112,17 @@ def plus_minus(worth: Worth | None) -> str:
         return ""
     size = worth.deviation / 1e6
     places = 3 if size < 1e-9 else min(3, max(0, 2 - int(log10(size) // 1)))
-    return f"{size:,.{places}f}"
+    return Figure(f"{size:,.{places}f}")
 
 
 def names_of(names: Sequence[str], most: int = 5) -> str:
     """Return names as a text, such as ``A, B and C``."""
-    shown = list(names[:most])
+    shown = Joined(", ", names[:most])
     if len(names) > most:
-        return f"{', '.join(shown)} and {len(names) - most} more"
-    return shown[0] if len(shown) == 1 else f"{', '.join(shown[:-1])} and {shown[-1]}"
+        return Sentence("{names} and {count} more", names=shown, count=len(names) - most)
+    if len(names) == 1:
+        return names[0]
+    return Sentence("{names} and {last}", names=Joined(", ", names[:-1]), last=names[-1])
 
 
 def count_of(number: int, one: str, many: str) -> str:
@@ -160,14 +169,23 @@ def verdict_of(
     reasons = lost.reasons
     if block.solved["state"] != "converged":
         reasons.append(
-            f"The arithmetic didn't converge in {block.solved['k']} sweeps: the bounds are wider "
-            "than asked for. Allow more sweeps, or use plantbal-desk solve."
+            Sentence(
+                "The arithmetic didn't converge in {sweeps} sweeps: the bounds are wider than asked "
+                "for. Allow more sweeps, or use plantbal-desk solve.",
+                sweeps=block.solved["k"],
+            )
         )
     if block.taken:
-        ended = f": {STOPS[stop]}" if stop in STOPS else ""
-        were = "was" if len(block.taken) == 1 else "were"
-        out = f"The {_measured(block)} of {names_of(_taken(block, taken))}"
-        reasons.append(f"{out} {were} taken out{ended}.")
+        one, many = (
+            ("The grade of {names} was taken out", "The grade of {names} were taken out")
+            if block.component
+            else ("The meter of {names} was taken out", "The meter of {names} were taken out")
+        )
+        out = counted(len(block.taken), one, many, names=names_of(_taken(block, taken)))
+        ended = (
+            Sentence("{out}: {why}.", out=out, why=Sentence(STOPS[stop])) if stop in STOPS else ""
+        )
+        reasons.append(ended or Sentence("{out}.", out=out))
         reasons += _equals_of_taken(block, taken)
     reasons.append(_tests(block))
     if block.whole is not None and block.whole["verdict"] == "reject":
@@ -190,29 +208,54 @@ def whither(block: Block, mass: Block | None = None) -> list[str]:
 
     balance = ComponentBalance(block, mass=mass)
     if balance.unknown:
-        return [f"No recovery: nothing determines what came in by {names_of(balance.unknown)}."]
+        return [
+            Sentence(
+                "No recovery: nothing determines what came in by {unknown}.",
+                unknown=names_of(balance.unknown),
+            )
+        ]
     leaving = [each for each in balance.shares() if each.way != "in"]
     known = [each for each in leaving if each.share == each.share]
-    parts = [
-        f"{100 * each.share:.2f} % ± {100 * each.share_sd:.2f} % went into {each.stream}"
+    parts: list[str] = [
+        Sentence(
+            "{share:.2f} % ± {share_sd:.2f} % went into {stream}",
+            share=100 * each.share,
+            share_sd=100 * each.share_sd,
+            stream=each.stream,
+        )
         for each in sorted(known, key=lambda each: -each.share)
     ]
-    return [f"Of the {block.component} that came in, {names_of(parts)}."] if parts else []
+    return (
+        [
+            Sentence(
+                "Of the {component} that came in, {parts}.",
+                component=block.component,
+                parts=names_of(parts),
+            )
+        ]
+        if parts
+        else []
+    )
 
 
 def _of_lines(lines: Sequence[StreamLine]) -> list[str]:
     """Return the greatest adjustment, and which streams have no figure, as sentences."""
-    said = []
+    said: list[str] = []
     moved = {line.name: line.deviations for line in lines if line.deviations}
     if moved:
         name = max(moved, key=lambda each: abs(moved[each] or 0))
         said.append(
-            f"The greatest adjustment is that of {name}: {moved[name]:+,.2f} standard deviations."
+            Sentence(
+                "The greatest adjustment is that of {name}: {moved:+,.2f} standard deviations.",
+                name=name,
+                moved=moved[name],
+            )
         )
     without = [line.name for line in lines if line.flow is None]
     if without:
-        have, them = ("has", "it") if len(without) == 1 else ("have", "them")
-        said.append(f"{names_of(without)} {have} no figure to book: nothing determines {them}.")
+        one = "{names} has no figure to book: nothing determines it."
+        many = "{names} have no figure to book: nothing determines them."
+        said.append(counted(len(without), one, many, names=names_of(without)))
     return said
 
 
@@ -225,13 +268,17 @@ def _headline(
     if block.solved["state"] != "converged":
         return "bad", "Not converged: not to be booked"
     if lacking:
-        return "bad", f"{count_of(lacking, 'row', 'rows')} refused: not to be booked"
+        one, many = "1 row refused: not to be booked", "{count:,} rows refused: not to be booked"
+        return "bad", counted(lacking, one, many)
     if verdict == "reject":
         if suspects:
-            return "look", f"Look at {one_of_said(suspects[0], block, MOST_IN_HEADLINE)}"
-        return "look", f"Rejected: look at the {_measured(block)}s"
+            names = one_of_said(suspects[0], block, MOST_IN_HEADLINE)
+            return "look", Sentence("Look at {names}", names=names)
+        if block.component:
+            return "look", "Rejected: look at the grades"
+        return "look", "Rejected: look at the meters"
     if verdict == "accept" and block.taken:
-        return "look", f"Accepted without {names_of(_taken(block, taken))}"
+        return "look", Sentence("Accepted without {names}", names=names_of(_taken(block, taken)))
     if verdict == "accept":
         return "good", "Accepted"
     if verdict == "undecided":
@@ -243,49 +290,81 @@ def _taken(block: Block, taken: Sequence[Set]) -> list[str]:
     """Return what was taken out: of a set of equals that it was one of them."""
     sets = taken or [(name,) for name in block.taken]
     some = (one_of_said(names, block, MOST_IN_HEADLINE) for names in sets)
-    return [f"one of {text}" if len(names) > 1 else text for names, text in zip(sets, some)]
+    return [
+        Sentence("one of {names}", names=text) if len(names) > 1 else text
+        for names, text in zip(sets, some)
+    ]
 
 
 def _equals_of_taken(block: Block, taken: Sequence[Set]) -> list[str]:
     """Return that it isn't known of sets of equals which one is wrong, as a sentence each."""
     return [
-        f"That it was {block.shown(name)} isn't a finding: these readings can't tell which of "
-        f"{one_of_said(names, block, MOST_IN_SENTENCE)} is off."
+        Sentence(
+            "That it was {name} isn't a finding: these readings can't tell which of {names} is "
+            "off.",
+            name=block.shown(name),
+            names=one_of_said(names, block, MOST_IN_SENTENCE),
+        )
         for name, names in zip(block.taken, taken)
         if len(names) > 1
     ]
 
 
-def _measured(block: Block) -> str:
-    """Return what the values of a round come from, such as ``meter``."""
-    return "grade" if block.component else "meter"
-
-
 def _tests(block: Block) -> str:
     """Return what the global test says, as a sentence."""
     assert block.solved is not None
-    one = _measured(block)
     solved = block.solved
     low, high = thousandths(solved["low"]), thousandths(solved["high"])
-    between = f"between {low} and {high}" if high else f"at least {low}"
-    degrees = count_of(int(solved["dof"]), "degree", "degrees")
+    dof = int(solved["dof"])
+    words: dict[str, object] = {
+        "between": (
+            Sentence("between {low} and {high}", low=low, high=high)
+            if high
+            else Sentence("at least {low}", low=low)
+        ),
+        "degrees": counted(dof, "1 degree of freedom", "{count:,} degrees of freedom"),
+    }
     if block.whole is None:
-        return (
-            f"No tests were made (run with --tests). The statistic is {between} at {degrees} of "
-            f"freedom; with true variances it is {solved['dof']} on average."
+        return Sentence(
+            "No tests were made (run with --tests). The statistic is {between} at {degrees}; with "
+            "true variances it is {dof} on average.",
+            dof=dof,
+            **words,
         )
-    critical = thousandths(block.whole["critical"])
-    return {
-        "accept": f"The {one}s fit together: the statistic is {between} at {degrees} of freedom, "
-        f"and up to {critical} is accepted.",
-        "reject": f"No balanced flows fit these {one}s: the statistic is {between} at {degrees} of "
-        f"freedom, and up to {critical} is accepted.",
-        "undecided": f"The statistic is {between}, and {critical} lies between: ask for a smaller "
-        "gap.",
-        "nocritical": f"There is no critical value for {degrees} of freedom, so nothing is "
-        f"accepted or rejected. The statistic is {between}.",
-        "notest": f"No {one} is checked by another: there is nothing to test.",
-    }[block.whole["verdict"]]
+    words["critical"] = thousandths(block.whole["critical"])
+    meters, grades = _SAID_OF_TEST[block.whole["verdict"]]
+    return Sentence(grades if block.component else meters, **words)
+
+
+# What is said of a global test, of meters and of grades, by its verdict.
+_SAID_OF_TEST = {
+    "accept": (
+        "The meters fit together: the statistic is {between} at {degrees}, and up to {critical} is "
+        "accepted.",
+        "The grades fit together: the statistic is {between} at {degrees}, and up to {critical} is "
+        "accepted.",
+    ),
+    "reject": (
+        "No balanced flows fit these meters: the statistic is {between} at {degrees}, and up to "
+        "{critical} is accepted.",
+        "No balanced flows fit these grades: the statistic is {between} at {degrees}, and up to "
+        "{critical} is accepted.",
+    ),
+    "undecided": (
+        "The statistic is {between}, and {critical} lies between: ask for a smaller gap.",
+        "The statistic is {between}, and {critical} lies between: ask for a smaller gap.",
+    ),
+    "nocritical": (
+        "There is no critical value for {degrees}, so nothing is accepted or rejected. The "
+        "statistic is {between}.",
+        "There is no critical value for {degrees}, so nothing is accepted or rejected. The "
+        "statistic is {between}.",
+    ),
+    "notest": (
+        "No meter is checked by another: there is nothing to test.",
+        "No grade is checked by another: there is nothing to test.",
+    ),
+}
 
 
 def _suspects(block: Block, lacking: int, suspects: Sequence[Set]) -> str:
@@ -293,22 +372,39 @@ def _suspects(block: Block, lacking: int, suspects: Sequence[Set]) -> str:
     if lacking:
         return "Which meter is off can't be said while rows of the plant are missing."
     if not suspects:
-        what = "several may be off, or a stream or a ticket may be missing"
-        return f"No single {_measured(block)} explains it: {what}."
+        if block.component:
+            return (
+                "No single grade explains it: several may be off, or a stream or a ticket may be "
+                "missing."
+            )
+        return "No single meter explains it: several may be off, or a stream or a ticket may be missing."
     low = {row["stream"]: thousandths(row["low"]) for row in block.measure}
     critical = {row["stream"]: thousandths(row["critical"]) for row in block.measure}
     first = suspects[0]
     tested = next(name for name in first if name in low)
     names = one_of_said(first, block, MOST_IN_SENTENCE)
-    its, which = "its measurement", ""
-    if len(first) > 1:
-        its, which = "the measurement of any one of them", " (these readings can't tell which)"
-    said = (
-        f"The first to look at is {names}{which}: without {its} the statistic falls by at least "
-        f"{low[tested]}, where {critical[tested]} is critical."
+    one = (
+        "The first to look at is {names}: without its measurement the statistic falls by at least "
+        "{low}, where {critical} is critical."
     )
+    many = (
+        "The first to look at is {names} (these readings can't tell which): without the measurement "
+        "of any one of them the statistic falls by at least {low}, where {critical} is critical."
+    )
+    words = {"names": names, "low": low[tested], "critical": critical[tested]}
+    said = counted(len(first), one, many, **words)
     more = sum(len(names) for names in suspects[1:])
-    if more:
-        others = f"other {_measured(block)}"
-        said += f" The tests of {count_of(more, others, f'{others}s')} reject as well."
-    return said
+    if not more:
+        return said
+    one, many = (
+        (
+            "The tests of 1 other grade reject as well.",
+            "The tests of {count} other grades reject as well.",
+        )
+        if block.component
+        else (
+            "The tests of 1 other meter reject as well.",
+            "The tests of {count} other meters reject as well.",
+        )
+    )
+    return Joined(" ", (said, counted(more, one, many)))

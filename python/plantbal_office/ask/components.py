@@ -9,7 +9,7 @@ from plantbal.study.recovery import ComponentBalance, balances_of, mass_of
 _FIGURES = ("t", "± t", "grade", "± of it", "in sd", "share", "±")
 
 
-def rows_of(output: Output) -> list[tuple[str, list[dict[str, object]]]]:
+def component_rows(output: Output) -> list[tuple[str, list[dict[str, object]]]]:
     """Return the components of a report, each with a row for each stream."""
     found: list[tuple[str, list[dict[str, object]]]] = []
     for block in balances_of(output) if any(b.component for b in output.blocks_in_order) else []:

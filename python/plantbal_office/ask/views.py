@@ -17,19 +17,29 @@ from django.utils.translation import gettext_lazy
 
 from plantbal.accounts.posting import postings_of
 from plantbal.balance.known import Class
-from plantbal.balance.planning import named, state_of
-from plantbal.balance.worth import Instrument, PeriodState, SpreadChange, changed, changes_of
+from plantbal.balance.planning import instrument_named, period_state
+from plantbal.balance.worth import (
+    Instrument,
+    PeriodState,
+    SpreadChange,
+    known_after,
+    spread_changes,
+)
+from plantbal.book.difference import Difference
 from plantbal.book.looking import BookMonth
+from plantbal.book.posting import NotPosted
 from plantbal.book.results import ReportState
 from plantbal.faults import Fault
+from plantbal.gates import Gate, about, said_of_stop
 from plantbal.report.output import Output, parse_report
 from plantbal.session import Session
 from plantbal.study.advice import Advice, advise
 from plantbal_office.ask.window import window_shown
 from plantbal_office.deeds.once import once
-from plantbal_office.look.views import month_of
+from plantbal_office.look.views import month_in_address
 from plantbal_office.plants.models import Plant
-from plantbal_office.shelf import KEPT, book_of, contents_of, plain_book, run_settings
+from plantbal_office.sentences import said
+from plantbal_office.shelf import KEPT, book_contents, book_of, plain_book, run_settings
 
 MOST_CHARTED = 36
 MOST_STREAMS = 24
@@ -46,7 +56,7 @@ class WhatIf(forms.Form):
 
 def menu(request: HttpRequest) -> HttpResponse:
     """Show what can be asked."""
-    contents = contents_of(request.plant)
+    contents = book_contents(request.plant)
     reported = [each for each in contents.months if each.report is not ReportState.MISSING]
     words = {
         "section": "ask",
@@ -60,14 +70,14 @@ def menu(request: HttpRequest) -> HttpResponse:
 # ---- differences and what is handed over
 
 
-def difference(request: HttpRequest, period: str) -> HttpResponse:
+def difference_page(request: HttpRequest, period: str) -> HttpResponse:
     """Show how two states of a month differ, and why."""
-    month = month_of(request, period)
+    month = month_in_address(request, period)
     words = request.GET.get("between", "")
     states = tuple(words.split(" ")) if words else ()
     if len(states) not in (0, 2) or any(len(each) > 12 for each in states):
         raise Fault(_("these aren't two states"), remedy=_("choose them from the list"))
-    version = contents_of(request.plant).version
+    version = book_contents(request.plant).version
     found = plain_book(request.plant).difference(period, *states)
     choices = [f"{number} now" for number in range(1, month.earlier + 1)]
     choices += [f"{n} {n + 1}" for n in range(1, month.earlier)] + ["posted now"]
@@ -81,17 +91,28 @@ def difference(request: HttpRequest, period: str) -> HttpResponse:
         "version": version,
         "section": "ask",
         "is_old": month.report is ReportState.OLDER,
+        "gates": _asked(request, month) if found.id and not words else [],
     }
     return render(request, "ask/difference.html", answer)
 
 
+def _asked(request: HttpRequest, month: BookMonth) -> list[tuple[Gate, str, list[str]]]:
+    """Return the gates for which a posting needs a reason, each with what it is and what it is of."""
+    if not month.closed or month.report is not ReportState.CURRENT:
+        return []
+    stops = plain_book(request.plant).unanswered(month.name)
+    gates = dict.fromkeys(stop.gate for stop in stops)
+    of = {gate: [said(said_of_stop(stop)) for stop in stops if stop.gate is gate] for gate in gates}
+    return [(gate, said(about(gate)), of[gate]) for gate in gates]
+
+
 def posted(request: HttpRequest, period: str) -> HttpResponse:
     """Record what is handed over of a month."""
-    month_of(request, period)
+    month_in_address(request, period)
 
     def act() -> str:
         why = request.POST.get("why", "").strip()[:80]
-        done = book_of(request, expected=True).post(period, why=why)
+        done = _post(request, period, why)
         what = _("{name} is posted as {id}: {count} postings.")
         count = len(postings_of(done.changes))
         messages.success(request, what.format(name=period, id=done.id, count=count))
@@ -100,10 +121,23 @@ def posted(request: HttpRequest, period: str) -> HttpResponse:
     return once(request, act)
 
 
+def _post(request: HttpRequest, period: str, why: str) -> Difference:
+    """Record what is handed over, with a reason for each gate."""
+    said = {gate: request.POST.get(f"why-{gate.value}", "").strip() for gate in Gate}
+    given = {gate: text[:80] for gate, text in said.items() if text}
+    try:
+        return book_of(request, expected=True).post(period, reasons=given, why=why)
+    except NotPosted as stopped:
+        gates = ", ".join(gate.value for gate in stopped.unanswered)
+        what = _("{name} isn't posted: no reason given for {gates}")
+        remedy = _("correct it, or say why it is posted anyway")
+        raise Fault(what.format(name=period, gates=gates), remedy=remedy) from stopped
+
+
 # ---- windows
 
 
-def window(request: HttpRequest) -> HttpResponse:
+def window_page(request: HttpRequest) -> HttpResponse:
     """Reconcile several months at once, over a dip that nobody took, and show what came of it."""
     words = request.POST if request.method == "POST" else request.GET
     first, last = words.get("first", ""), words.get("last", "")
@@ -112,7 +146,7 @@ def window(request: HttpRequest) -> HttpResponse:
         def act() -> str:
             done = book_of(request).window(first, last, settings=run_settings())
             if not done.is_new:
-                messages.info(request, _("The report of this window is as it was."))
+                messages.info(request, _("The report of this window hasn't changed."))
             return f"{reverse('ask:window', args=[request.plant.slug])}?first={first}&last={last}"
 
         return once(request, act)
@@ -141,7 +175,7 @@ class WhatIfLine:
         return abs(self.after - self.before) > 0.001 * max(self.before, 1e-9)
 
 
-def asked_of(change: SpreadChange) -> WhatIfLine:
+def what_if_line(change: SpreadChange) -> WhatIfLine:
     """Return a line of a what-if."""
     factor, unit = (100.0, "%") if change.component else (1.0, "t")
     name = f"{change.component} in {change.stream}" if change.component else change.stream
@@ -154,21 +188,23 @@ def asked_of(change: SpreadChange) -> WhatIfLine:
     )
 
 
-def plan_of(plant: Plant, month: BookMonth) -> PeriodState:
+def month_plan(plant: Plant, month: BookMonth) -> PeriodState:
     """Return the flows and errors of a month, on which others are put."""
 
     def make() -> PeriodState:
         session = plain_book(plant).session_asking(month.name)
-        return state_of(session.encode("ascii"), month.name, month.name, settings.PLANTBAL_PROGRAM)
+        return period_state(
+            session.encode("ascii"), month.name, month.name, settings.PLANTBAL_PROGRAM
+        )
 
     return KEPT.of(Path(plant.folder), "plan", (month.name,), make)
 
 
 def whatif(request: HttpRequest, period: str) -> HttpResponse:
     """Show the ± of all flows with one more meter or assay, or one fewer."""
-    month = month_of(request, period)
+    month = month_in_address(request, period)
     form = WhatIf(request.GET or None)
-    state = plan_of(request.plant, month)
+    state = month_plan(request.plant, month)
     words = {"month": month, "form": form, "section": "ask"}
     words["streams"] = [flow.name for flow in state.problem.flows]
     words["there"] = sorted(each.said for each in state.here)
@@ -187,19 +223,19 @@ def _whatif(state: PeriodState, add: str, lose: str) -> list[WhatIfLine]:
         name, _equals, error = (part.strip() for part in text.partition("="))
         if not error:
             name, _space, error = text.partition(" ")
-        found = named(f"{name}={error.strip()}", state)
+        found = instrument_named(f"{name}={error.strip()}", state)
         if not found.deviation:
             raise Fault(_("there is no error of {name}").format(name=name), remedy="FI-7 = 1.5 %")
         more.append(found)
-    fewer = [named(each.strip(), state) for each in lose.split(";") if each.strip()]
-    before, after = state.with_(state.here), changed(state, more, fewer)
-    return [asked_of(each) for each in changes_of(state, before, after)]
+    fewer = [instrument_named(each.strip(), state) for each in lose.split(";") if each.strip()]
+    before, after = state.with_(state.here), known_after(state, more, fewer)
+    return [what_if_line(each) for each in spread_changes(state, before, after)]
 
 
 def advice(request: HttpRequest) -> HttpResponse:
     """Show which streams to meter so that every one is observable, at least cost."""
     plant: Plant = request.plant
-    contents = contents_of(plant)
+    contents = book_contents(plant)
     year = max(contents.flows, default="")
     plain = [each.name for each in contents.flows.get(year, ()) if each.kind == "plain"]
     costs: dict[str, int] = {}
@@ -216,7 +252,7 @@ def advice(request: HttpRequest) -> HttpResponse:
 
 def _advised(plant: Plant, year: str, costs: dict[str, int]) -> Advice | None:
     """Return the advice on the plant of a year; None if it has no month yet."""
-    months = [each.name for each in contents_of(plant).months if each.year == year]
+    months = [each.name for each in book_contents(plant).months if each.year == year]
     if not months:
         return None
     session = Session(strict=False)
@@ -230,7 +266,7 @@ def _advised(plant: Plant, year: str, costs: dict[str, int]) -> Advice | None:
 
 def recovery(request: HttpRequest, period: str) -> HttpResponse:
     """Show where each component goes."""
-    month = month_of(request, period)
+    month = month_in_address(request, period)
     output = parse_report(plain_book(request.plant).kept(period).text, f"the report of {period}")
     words = {"month": month, "balances": shares_of(output), "section": "ask"}
     return render(request, "ask/recovery.html", words)
@@ -238,30 +274,32 @@ def recovery(request: HttpRequest, period: str) -> HttpResponse:
 
 def shares_of(output: Output) -> list[tuple[str, list[dict[str, object]]]]:
     """Return what each stream carries of each component."""
-    from plantbal_office.ask.components import rows_of
+    from plantbal_office.ask.components import component_rows
 
-    return rows_of(output)
+    return component_rows(output)
 
 
 def chart(request: HttpRequest) -> HttpResponse:
     """Show the months in a chart: the statistic, and what is adjusted most."""
     reported = [
-        each for each in contents_of(request.plant).months if each.report is not ReportState.MISSING
+        each
+        for each in book_contents(request.plant).months
+        if each.report is not ReportState.MISSING
     ]
     streams = request.GET.getlist("stream")[:MOST_STREAMS]
-    year = max(contents_of(request.plant).flows, default="")
-    names = [each.name for each in contents_of(request.plant).flows.get(year, ())]
+    year = max(book_contents(request.plant).flows, default="")
+    names = [each.name for each in book_contents(request.plant).flows.get(year, ())]
     words = {"months": reported, "streams": streams, "names": names, "section": "ask"}
     words["query"] = request.GET.urlencode()
     return render(request, "ask/chart.html", words)
 
 
-def picture(request: HttpRequest) -> HttpResponse:
+def chart_picture(request: HttpRequest) -> HttpResponse:
     """Give the chart as a picture."""
-    from plantbal.report.chart import chosen, write_chart
+    from plantbal.report.chart import chosen_lines, write_chart
     from plantbal.report.trend import trend_of
 
-    contents = contents_of(request.plant)
+    contents = book_contents(request.plant)
     names = [m.name for m in contents.months if m.report is not ReportState.MISSING][-MOST_CHARTED:]
     if not names:
         raise Http404
@@ -270,7 +308,7 @@ def picture(request: HttpRequest) -> HttpResponse:
     trend = trend_of(parse_report(text, "the reports"), days.encode("ascii"))
     streams = [each[:40] for each in request.GET.getlist("stream")[:MOST_STREAMS]]
     out = io.BytesIO()
-    write_chart(trend, chosen(trend, 0 if streams else 8, streams), out, "svg")
+    write_chart(trend, chosen_lines(trend, 0 if streams else 8, streams), out, "svg")
     answer = HttpResponse(out.getvalue(), content_type="image/svg+xml")
     answer["Content-Security-Policy"] = "default-src 'none'; style-src 'unsafe-inline'"
     return answer

@@ -5,14 +5,17 @@ from __future__ import annotations
 from dataclasses import dataclass
 from pathlib import Path
 
+from django.utils.translation import get_language
+
 from plantbal.book.window import undipped
 from plantbal.faults import Fault
 from plantbal.page.command import Source, prepare
-from plantbal.page.render import render
+from plantbal.page.render import render, speaking
 from plantbal.report.output import parse_report
 from plantbal.report.parsing import parse_rows
 from plantbal_office.look.statement import inner_main
 from plantbal_office.plants.models import Plant
+from plantbal_office.sentences import spoken
 from plantbal_office.shelf import KEPT, plain_book
 
 _SECONDS = 8.0
@@ -36,9 +39,10 @@ def window_shown(plant: Plant, first: str, last: str) -> ShownWindow | None:
             return None
         name = f"the report of {first} to {last}"
         prepared = prepare(Source(parse_rows(name, kept.text), name))
-        page = render(prepared, title=kept.period, seconds=_SECONDS)
+        with speaking(spoken()):
+            page = render(prepared, title=kept.period, seconds=_SECONDS)
         blocks = [each for each in parse_report(kept.text, name).blocks_in_order if each.window]
         held = tuple(undipped(blocks[-1])) if blocks else ()
         return ShownWindow(inner_main(page), held)
 
-    return KEPT.of(Path(plant.folder), "page", ("window", first, last), make)
+    return KEPT.of(Path(plant.folder), "page", ("window", first, last, get_language()), make)

@@ -14,13 +14,13 @@ from plantbal.faults import Fault
 from plantbal.gates import Gate
 from plantbal_office.deeds.once import once
 from plantbal_office.deeds.signing import SUBMISSION, signed_text
-from plantbal_office.shelf import book_of, contents_of, given_by, plain_book, run_settings
+from plantbal_office.shelf import book_contents, book_of, given_by, plain_book, run_settings
 
 _REASON = 80  # characters
 _ROWS = 40  # of what waits
 
 
-def submit(request: HttpRequest, period: str) -> HttpResponse:
+def submit_page(request: HttpRequest, period: str) -> HttpResponse:
     """Submit the close of a month; or give the text that this signs, as a file."""
     anyway = {gate: request.POST.get(f"why-{gate.value}", "").strip() for gate in Gate}
     given = {gate: why[: _REASON + 1] for gate, why in anyway.items() if why}
@@ -49,7 +49,7 @@ def waiting(request: HttpRequest) -> HttpResponse:
         "waiting": [(each, _rows(each)) for each in book.waiting()],
         "keys": rules is not None and rules.keys,
         "ruled": rules is not None,
-        "version": contents_of(request.plant).version,
+        "version": book_contents(request.plant).version,
         "section": "statement",
     }
     return render(request, "correct/waiting.html", words)
@@ -64,7 +64,7 @@ def _rows(waiting: Waiting) -> list[str]:
     ]
 
 
-def to_sign(request: HttpRequest) -> HttpResponse:
+def signing_text(request: HttpRequest) -> HttpResponse:
     """Give the text that an approval or a rejection signs, as a file."""
     deed = (
         ApprovalDeed.REJECT
@@ -75,7 +75,7 @@ def to_sign(request: HttpRequest) -> HttpResponse:
     return signed_text(text, f"{deed.value}.txt")
 
 
-def approve(request: HttpRequest) -> HttpResponse:
+def approve_page(request: HttpRequest) -> HttpResponse:
     """Approve what was shown, or reject it with a reason."""
     head, why = request.POST.get("head", ""), request.POST.get("why", "").strip()
     is_rejected = request.POST.get("answer") == "reject"
@@ -91,7 +91,7 @@ def approve(request: HttpRequest) -> HttpResponse:
             what = (
                 _("{of} is approved, and done.")
                 if not done.lacking
-                else _("{of} is approved; more have to.")
+                else _("{of} is approved; more approvals are needed.")
             )
             messages.success(request, what.format(of=f"{done.act} {done.of}".strip()))
         return reverse("correct:waiting", args=[request.plant.slug])
@@ -109,6 +109,8 @@ def _signed(request: HttpRequest) -> tuple[str, str]:
     """
     given, rules = given_by(request), plain_book(request.plant).rules()
     if rules is not None and rules.keys and given is None:
-        remedy = _("take the text to be signed, sign it by the command shown, and send both files")
+        remedy = _(
+            "download the text to be signed, sign it with the command shown, and send both files"
+        )
         raise Fault(_("this book requires a signature"), remedy=remedy)
     return given or ("", "")

@@ -19,18 +19,18 @@ from plantbal.book.ledger import BookFact
 from plantbal.book.library import Book
 from plantbal.book.looking import Contents, FactLine
 from plantbal.book.results import Closed, Edited, Estimated
-from plantbal.commands.book.estimating import said_of as proposal_said
+from plantbal.commands.book.estimating import proposal_said as proposal_said
 from plantbal.faults import Fault
-from plantbal.gates import Gate, Stop
+from plantbal.gates import Gate, Stop, about, remedy_of_stop, said_of_stop
 from plantbal.lint.findings import RULES
 from plantbal_office.deeds.once import once
-from plantbal_office.effects import TRIED, Said, Trial, months_of, tried
-from plantbal_office.effects import said_of as report_said
+from plantbal_office.effects import TRIED, Said, Trial, touched_months, tried
+from plantbal_office.effects import report_said as report_said
 from plantbal_office.enter.typed import typing_locale
-from plantbal_office.look.views import month_of
+from plantbal_office.look.views import month_in_address
 from plantbal_office.plants.standing import stand_of
-from plantbal_office.sentences import fact_said, gate_about, stop_remedy, stop_said
-from plantbal_office.shelf import book_of, contents_of, plain_book, run_settings
+from plantbal_office.sentences import fact_said, said
+from plantbal_office.shelf import book_contents, book_of, plain_book, run_settings
 
 MOST_ROUNDS = 6
 REASON = 80  # letters, as a row of a session bears
@@ -39,11 +39,13 @@ REASON = 80  # letters, as a row of a session bears
 class ChangeForm(forms.Form):
     """Another value of a fact."""
 
-    amount = forms.CharField(label=gettext_lazy("Amount with its unit"), max_length=40)
+    amount = forms.CharField(label=gettext_lazy("Amount with unit"), max_length=40)
     density = forms.CharField(
-        label=gettext_lazy("Density, if another"), max_length=40, required=False
+        label=gettext_lazy("Density, if it changes"), max_length=40, required=False
     )
-    error = forms.CharField(label=gettext_lazy("Error, if another"), max_length=40, required=False)
+    error = forms.CharField(
+        label=gettext_lazy("Error, if it changes"), max_length=40, required=False
+    )
     why = forms.CharField(label=gettext_lazy("Reason"), max_length=REASON)
 
 
@@ -65,18 +67,18 @@ class AskedFact:
     title: str
 
 
-def named(found: BookFact) -> tuple[str, str | None]:
+def fact_words(found: BookFact) -> tuple[str, str | None]:
     """Return the words that name a fact: its place and its day, or of a ticket its id."""
     return (found.id, None) if found.kind == "transfer" else (found.place, str(found.first))
 
 
-def amend(request: HttpRequest, year: str, identity: str) -> HttpResponse:
+def amend_page(request: HttpRequest, year: str, identity: str) -> HttpResponse:
     """Give a fact another value: the form, what it would do, and then the deed."""
-    version = contents_of(request.plant).version
+    version = book_contents(request.plant).version
     found = plain_book(request.plant).fact(year, identity)
     words = request.POST if request.method == "POST" else request.GET
     form = ChangeForm(words if "amount" in words else None)
-    name, day = named(found.shown.fact)
+    name, day = fact_words(found.shown.fact)
     locale = typing_locale()
 
     def act(book: Book) -> Edited:
@@ -94,13 +96,13 @@ def amend(request: HttpRequest, year: str, identity: str) -> HttpResponse:
     return _changed(request, AskedFact(found, version, _("Amend")), form, act)
 
 
-def strike(request: HttpRequest, year: str, identity: str) -> HttpResponse:
+def strike_page(request: HttpRequest, year: str, identity: str) -> HttpResponse:
     """Take a fact out: the form, what it would do, and then the deed."""
-    version = contents_of(request.plant).version
+    version = book_contents(request.plant).version
     found = plain_book(request.plant).fact(year, identity)
     words = request.POST if request.method == "POST" else request.GET
     form = ReasonForm(words if "why" in words else None)
-    name, day = named(found.shown.fact)
+    name, day = fact_words(found.shown.fact)
 
     def act(book: Book) -> Edited:
         return book.strike(name, day, why=form.cleaned_data["why"].strip())
@@ -124,7 +126,7 @@ def _changed(
             messages.success(request, edited_said(done))
             for name in done.closed:
                 what = _(
-                    "{name} is closed, and this changes it: make its report, then see the difference."
+                    "{name} is closed, and this changes it: make its report, then look at the difference."
                 )
                 messages.warning(request, what.format(name=name))
             fact = done.new or done.old
@@ -140,20 +142,20 @@ def _changed(
 def months_edited(done: object, then: Contents) -> list[str]:
     """Return the months that a change of a fact touches."""
     assert isinstance(done, Edited)
-    return months_of([done.old], then)
+    return touched_months([done.old], then)
 
 
 def edited_said(done: Edited) -> str:
     """Return what became of a fact, as a sentence."""
     if not done.is_booked:
-        return _("{id} was so already.").format(id=done.old.id)
+        return _("{id} already had these figures.").format(id=done.old.id)
     if done.new is None:
         return _("{id} is struck: {was}.").format(id=done.old.id, was=fact_said(done.old))
     what = _("{id}: {was} becomes {now}.")
     return what.format(id=done.old.id, was=fact_said(done.old), now=fact_said(done.new))
 
 
-def undo(request: HttpRequest, year: str, identity: str) -> HttpResponse:
+def undo_page(request: HttpRequest, year: str, identity: str) -> HttpResponse:
     """Give a fact back what it was, by an amendment or a new fact, while its period is open."""
     found = plain_book(request.plant).fact(year, identity)
     form = ReasonForm(request.POST)
@@ -179,9 +181,9 @@ def undo(request: HttpRequest, year: str, identity: str) -> HttpResponse:
 # ---- estimates
 
 
-def estimate(request: HttpRequest, period: str) -> HttpResponse:
+def estimate_page(request: HttpRequest, period: str) -> HttpResponse:
     """Propose estimates for days without a reading, and book them."""
-    month = month_of(request, period)
+    month = month_in_address(request, period)
     words = request.POST if request.method == "POST" else request.GET
     stream = words.get("stream", "")[:40]
     if request.method == "POST":
@@ -199,7 +201,7 @@ def estimate(request: HttpRequest, period: str) -> HttpResponse:
 
         return once(request, deed)
     # before anything is looked at: what is decided then is on no newer book
-    version = contents_of(request.plant).version
+    version = book_contents(request.plant).version
     found = plain_book(request.plant).estimate(period, stream)
     trial: Trial | None = None
     if any(each.is_needed for each in found.proposals):
@@ -226,7 +228,7 @@ def _taken(book: Book, period: str, stream: str) -> Estimated:
 
 def report(request: HttpRequest, period: str) -> HttpResponse:
     """Make the report of a month, and show its statement."""
-    month_of(request, period)
+    month_in_address(request, period)
     rounds = request.POST.get("eliminate", "0")
     eliminate = int(rounds) if rounds in map(str, range(MOST_ROUNDS + 1)) else 0
 
@@ -234,15 +236,17 @@ def report(request: HttpRequest, period: str) -> HttpResponse:
         made = book_of(request).report(period, settings=run_settings(eliminate))
         for each in made:
             if not each.is_new:
-                messages.info(request, _("The report of {name} is as it was.").format(name=period))
+                messages.info(
+                    request, _("The report of {name} hasn't changed.").format(name=period)
+                )
         return reverse("look:statement", args=[request.plant.slug, period])
 
     return once(request, deed)
 
 
-def close(request: HttpRequest, period: str) -> HttpResponse:
+def close_page(request: HttpRequest, period: str) -> HttpResponse:
     """Show what a close asks, take the answers, and close the month."""
-    month = month_of(request, period)
+    month = month_in_address(request, period)
     anyway = {gate: request.POST.get(f"why-{gate.value}", "").strip() for gate in Gate}
     given = {gate: why[: REASON + 1] for gate, why in anyway.items() if why}
     if request.method == "POST":
@@ -250,13 +254,13 @@ def close(request: HttpRequest, period: str) -> HttpResponse:
     if month.closed:
         words = {"month": month, "section": "statement", "stand": stand_of(request.plant, month)}
         return render(request, "correct/closed.html", words)
-    version, rules = contents_of(request.plant).version, plain_book(request.plant).rules()
-    said, stops = _asked(request, period)
+    version, rules = book_contents(request.plant).version, plain_book(request.plant).rules()
+    whole, stops = _asked(request, period)
     gates = list(dict.fromkeys(stop.gate for stop in stops))
     words = {
         "month": month,
-        "said": said,
-        "gates": [(gate, gate_about(gate), _of(gate, stops)) for gate in gates],
+        "said": whole,
+        "gates": [(gate, said(about(gate)), _of(gate, stops)) for gate in gates],
         "version": version,
         "section": "statement",
         "ruled": rules is not None,
@@ -267,7 +271,11 @@ def close(request: HttpRequest, period: str) -> HttpResponse:
 
 def _of(gate: Gate, stops: list[Stop]) -> list[tuple[str, str]]:
     """Return what there is to look at of a gate, and what to do."""
-    return [(stop_said(each), stop_remedy(each)) for each in stops if each.gate is gate]
+    return [
+        (said(said_of_stop(each)), said(remedy_of_stop(each)))
+        for each in stops
+        if each.gate is gate
+    ]
 
 
 def _asked(request: HttpRequest, period: str) -> tuple[Said, list[Stop]]:
@@ -286,14 +294,14 @@ def _close(request: HttpRequest, period: str, given: dict[Gate, str]) -> str:
         )
     except NotClosed as stopped:
         gates = ", ".join(gate.value for gate in stopped.unanswered)
-        what = _("{name} isn't closed: there is no reason for {gates}")
-        remedy = _("put it right, or say why it is closed all the same")
+        what = _("{name} isn't closed: no reason given for {gates}")
+        remedy = _("correct it, or say why it is closed anyway")
         raise Fault(what.format(name=period, gates=gates), remedy=remedy) from stopped
     if done.head is None:
-        messages.info(request, _("{name} was closed already.").format(name=period))
+        messages.info(request, _("{name} is already closed.").format(name=period))
     else:
         what = _(
-            "{name} is closed. Keep this head where nobody who writes to the book can write: {head}"
+            "{name} is closed. Keep this head where nobody who can write to the book can change it: {head}"
         )
         messages.success(request, what.format(name=period, head=done.head))
     return reverse("look:statement", args=[request.plant.slug, period])
@@ -302,7 +310,7 @@ def _close(request: HttpRequest, period: str, given: dict[Gate, str]) -> str:
 # ---- rules that are quieted for good
 
 
-def quiet(request: HttpRequest) -> HttpResponse:
+def quiet_page(request: HttpRequest) -> HttpResponse:
     """Show which rules are quieted, and quiet one or have it speak again."""
     if request.method == "POST":
         form = ReasonForm(request.POST)
@@ -316,7 +324,7 @@ def quiet(request: HttpRequest) -> HttpResponse:
             book, why = book_of(request, expected=True), form.cleaned_data["why"].strip()
             (book.heed if off else book.quiet)(code, *names, why=why)
             what = (
-                _("{code} speaks again for {names}.")
+                _("{code} is reported again for {names}.")
                 if off
                 else _("{code} is quieted for {names}.")
             )
@@ -324,7 +332,7 @@ def quiet(request: HttpRequest) -> HttpResponse:
             return reverse("correct:quiet", args=[request.plant.slug])
 
         return once(request, deed)
-    contents = contents_of(request.plant)
+    contents = book_contents(request.plant)
     words = {
         "quiets": contents.quiets,
         "codes": sorted(filter(_may_be_quiet, RULES)),

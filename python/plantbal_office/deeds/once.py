@@ -54,7 +54,9 @@ def once(request: HttpRequest, act: Callable[[], str]) -> HttpResponse:
     """
     key = request.POST.get("deed", "")
     if not 16 <= len(key) <= LONGEST:
-        raise Fault(_("this form has no key"), remedy=_("load the page again, and fill it in anew"))
+        raise Fault(
+            _("this form has no key"), remedy=_("reload the page, and fill in the form again")
+        )
     Deed.objects.filter(key=key, ended=None, begun__lt=timezone.now() - STOPPED).delete()
     plant = getattr(request, "plant", None)
     try:
@@ -88,8 +90,8 @@ def _again(request: HttpRequest, key: str) -> HttpResponse:
     """Answer a form that was sent before."""
     deed = Deed.objects.filter(key=key, person=request.user).first()
     if deed is None:
-        raise Fault(_("this form is another person's"), remedy=_("load the page again"))
+        raise Fault(_("this form belongs to somebody else"), remedy=_("reload the page"))
     if deed.ended is None:
         return redirect("deeds:outcome", key=key)
-    messages.info(request, _("This form was sent before: nothing was done twice."))
+    messages.info(request, _("This form had already been sent: nothing was done twice."))
     return redirect(deed.outcome)

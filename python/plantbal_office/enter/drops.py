@@ -83,7 +83,7 @@ def checked_name(name: str) -> str:
         what = _("this file name is too long, or has characters that a file name can't have")
         raise InputFault(what, place=place, remedy=_("rename the file"))
     if not name.lower().endswith(ENDINGS):
-        what = _("this isn't a workbook that is read here")
+        what = _("this isn't a workbook that can be read")
         remedy = _("save it as .xlsx or .ods, or its sheets as .csv")
         raise InputFault(what, place=place, remedy=remedy)
     return name
@@ -109,7 +109,7 @@ def workbooks_of(files: Sequence[UploadedFile], name: str) -> list[tuple[str, li
     return found
 
 
-def write(folder: Path, name: str, files: Sequence[UploadedFile]) -> Path:
+def write_workbook_files(folder: Path, name: str, files: Sequence[UploadedFile]) -> Path:
     """Write the files of a workbook into a folder, and return the workbook.
 
     Raises
@@ -138,7 +138,7 @@ def _copy(file: UploadedFile, place: Path) -> None:
             out.write(part)
 
 
-def one_of(request: HttpRequest) -> tuple[str, list[UploadedFile]]:
+def one_workbook(request: HttpRequest) -> tuple[str, list[UploadedFile]]:
     """Return the one workbook that came by a form: its name, and its files.
 
     Raises
@@ -148,8 +148,8 @@ def one_of(request: HttpRequest) -> tuple[str, list[UploadedFile]]:
     """
     found = workbooks_of(files_in(request), request.POST.get("called", ""))
     if len(found) != 1:
-        what = _("there is no workbook") if not found else _("these are several workbooks")
-        raise Fault(what, remedy=_("choose the workbook of the plant, or all CSV files of it"))
+        what = _("no workbook was chosen") if not found else _("these are several workbooks")
+        raise Fault(what, remedy=_("choose the plant's workbook, or all its CSV files"))
     return found[0]
 
 
@@ -165,9 +165,9 @@ def dropped(request: HttpRequest) -> Iterator[Path | None]:
     if not files_in(request):
         yield None
         return
-    found = one_of(request)
+    found = one_workbook(request)
     with tempfile.TemporaryDirectory(prefix="plantbal-drop-") as made:
-        yield write(Path(made), *found)
+        yield write_workbook_files(Path(made), *found)
 
 
 def without_folders(text: str) -> str:
@@ -215,12 +215,12 @@ def typed_reading(book: Book, locale: str) -> ReadingOptions:
     return ReadingOptions(locale, mapping.missing, (), mapping.limits)
 
 
-def keep(request: HttpRequest, name: str, files: Sequence[UploadedFile], locale: str) -> Drop:
+def keep_drop(request: HttpRequest, name: str, files: Sequence[UploadedFile], locale: str) -> Drop:
     """Keep a workbook until it is booked; that of a new plant until its book is begun."""
     plant = getattr(request, "plant", None)
     drop = Drop(person=request.user, plant=plant, name=name, locale=locale)
     try:
-        write(folder_of(drop), name, files)
+        write_workbook_files(folder_of(drop), name, files)
     except BaseException:
         shutil.rmtree(folder_of(drop), ignore_errors=True)
         raise

@@ -13,7 +13,7 @@ from django.urls import reverse
 
 
 from plantbal.amounts import tonnes_of
-from plantbal.book.ledger import BookFact, plain
+from plantbal.book.ledger import BookFact, number_with_commas
 from plantbal.book.looking import BookMonth, BookStream, Vessel
 from plantbal.book.meters import Meter
 from plantbal.book.results import ShownFact
@@ -23,14 +23,14 @@ from plantbal.model.plant import in_service
 from plantbal.workbook.units import GRAMS, VOLUMES, WET
 from plantbal_office.deeds.once import once
 from plantbal_office.enter.core import core_files
-from plantbal_office.enter.drops import write, folder_of
-from plantbal_office.enter.judging import Judged, judge, judge_ticket
+from plantbal_office.enter.drops import write_workbook_files, folder_of
+from plantbal_office.enter.judging import Judged, judge_ticket, judge_typed
 from plantbal_office.enter.models import Drop
 from plantbal_office.enter.rules import JUDGED, judging_rules
 from plantbal_office.enter.typed import KINDS, SHEETS, cells_of, file_of, parted, typing_locale
-from plantbal_office.look.views import month_of
+from plantbal_office.look.views import month_in_address
 from plantbal_office.middleware import POLICY_WITH_CORE
-from plantbal_office.shelf import contents_of, facts_of
+from plantbal_office.shelf import book_contents, period_facts
 from plantbal_office.shown import in_language
 
 _DAY = datetime.timedelta(1)
@@ -64,7 +64,7 @@ class Dip:
 
 def grid(request: HttpRequest, period: str, kind: str) -> HttpResponse:
     """Show the grid of a month, or go on to what it would do if it is booked."""
-    month = month_of(request, period)
+    month = month_in_address(request, period)
     if kind not in KINDS:
         raise Http404
     fault: Fault | None = None
@@ -81,7 +81,7 @@ def grid(request: HttpRequest, period: str, kind: str) -> HttpResponse:
                 cleared=cleared,
             )
             if rows:
-                write(folder_of(drop), drop.name, [file_of(kind, rows)])
+                write_workbook_files(folder_of(drop), drop.name, [file_of(kind, rows)])
             drop.save(force_insert=True)
             return reverse("enter:seen", args=[request.plant.slug, drop.pk])
 
@@ -89,7 +89,7 @@ def grid(request: HttpRequest, period: str, kind: str) -> HttpResponse:
             return once(request, act)
         except Fault as found:
             fault = found
-    contents = contents_of(request.plant)
+    contents = book_contents(request.plant)
     flows = contents.flows[month.year]
     core = core_files() if kind in JUDGED else None
     words = {
@@ -115,7 +115,7 @@ def grid(request: HttpRequest, period: str, kind: str) -> HttpResponse:
     return answer
 
 
-def tests(request: HttpRequest) -> HttpResponse:
+def tests_page(request: HttpRequest) -> HttpResponse:
     """Go on to what tests at a level would say: the critical values that the plant may need."""
 
     def act() -> str:
@@ -123,7 +123,7 @@ def tests(request: HttpRequest) -> HttpResponse:
             person=request.user, plant=request.plant, name="tests_at_5_percent", is_typed=True
         )
         sheet = ContentFile(b"setting,value\ntests,0.05\n", name="settings.csv")
-        write(folder_of(drop), drop.name, [sheet])
+        write_workbook_files(folder_of(drop), drop.name, [sheet])
         drop.save(force_insert=True)
         return reverse("enter:seen", args=[request.plant.slug, drop.pk])
 
@@ -135,9 +135,9 @@ def readings_of(
 ) -> tuple[list[BookStream], list[tuple[datetime.date, list[GridCell]]]]:
     """Return the meters of a month, and for each day what is booked of each."""
     flows = [
-        each for each in contents_of(request.plant).flows[month.year] if each.kind == "metered"
+        each for each in book_contents(request.plant).flows[month.year] if each.kind == "metered"
     ]
-    found = facts_of(request.plant, month.name)
+    found = period_facts(request.plant, month.name)
     there = {(each.fact.place, each.fact.first): each for each in found.facts if not each.struck}
     rows = []
     for number in range(month.first.toordinal(), month.last.toordinal() + 1):
@@ -146,14 +146,14 @@ def readings_of(
     return flows, rows
 
 
-def label_of(place: BookStream) -> str:
+def meter_label(place: BookStream) -> str:
     """Return how a workbook calls a meter: by its tag, or else by its stream."""
     return place.meter.tag if place.meter is not None and place.meter.tag else place.name
 
 
 def _reading(flow: BookStream, day: datetime.date, shown: ShownFact | None) -> GridCell:
     """Return the cell of a reading."""
-    label = label_of(flow)
+    label = meter_label(flow)
     if shown is None:
         served = in_service(flow.service, day.toordinal())
         return GridCell(label, day, "", "missing" if served else "off")
@@ -165,20 +165,20 @@ def typed_of(fact: BookFact, meter: Meter | None) -> str:
     """Return a reading as it would be typed: in the unit of its meter, to six digits after the point."""
     unit = meter.unit if meter is not None else ""
     if unit in ("", "t", *WET):
-        return plain(tonnes_of(fact.values[0]))
+        return number_with_commas(tonnes_of(fact.values[0]))
     factor = GRAMS.get(unit) or VOLUMES[unit] * ((meter.density if meter is not None else 0) or 0)
     if not factor:
-        return plain(tonnes_of(fact.values[0])) + " t"
+        return number_with_commas(tonnes_of(fact.values[0])) + " t"
     number = fact.values[0] / factor
-    return plain(round(Decimal(number.numerator) / Decimal(number.denominator), 6))
+    return number_with_commas(round(Decimal(number.numerator) / Decimal(number.denominator), 6))
 
 
 def dips_of(request: HttpRequest, month: BookMonth) -> list[Dip]:
     """Return the dips of a month: of each tank at its ends, and on each other day that has one."""
-    found = facts_of(request.plant, month.name)
+    found = period_facts(request.plant, month.name)
     there = {(each.fact.place, each.fact.first): each for each in found.facts if not each.struck}
     rows = []
-    for tank in contents_of(request.plant).vessels[month.year]:
+    for tank in book_contents(request.plant).vessels[month.year]:
         ends = {month.first - _DAY, month.last}
         days = sorted(ends | {day for name, day in there if name == tank.name})
         rows += [
@@ -198,7 +198,7 @@ def _dip(
     if shown is None:
         mark = "missing" if is_end else ""
         usual = tank.meter.density if tank.meter is not None else None
-        text = in_language(plain(Decimal(round(usual)) / 1000)) if usual else ""
+        text = in_language(number_with_commas(Decimal(round(usual)) / 1000)) if usual else ""
         level, dense = GridCell(tank.name, day, "", mark, "level"), GridCell(
             tank.name, day, text, "", "density"
         )
@@ -208,13 +208,15 @@ def _dip(
     ml = volume_at(state.plant.tables.get(tank.name, []), mm)
     grams = ml * density // 10**6 if ml is not None else None
     level = GridCell(tank.name, day, in_language(f"{mm:,}"), mark, "level")
-    dense = GridCell(tank.name, day, in_language(plain(Decimal(density) / 1000)), "", "density")
+    dense = GridCell(
+        tank.name, day, in_language(number_with_commas(Decimal(density) / 1000)), "", "density"
+    )
     return Dip(tank.name, day, level, dense, grams, ml, is_end)
 
 
 def judged(request: HttpRequest, period: str) -> HttpResponse:
     """Say of cells that were typed what a workbook and the program would say of them."""
-    month = month_of(request, period)
+    month = month_in_address(request, period)
     cells = cells_of(request.POST.get("cells", ""))[:MOST_JUDGED]
     locale = typing_locale()
     found = []
@@ -223,7 +225,7 @@ def judged(request: HttpRequest, period: str) -> HttpResponse:
             said = judge_ticket(request.plant, month, cell, locale)
         else:
             words = {key: value for key, value in cell.items() if key not in ("name", "day")}
-            said = judge(
+            said = judge_typed(
                 request.plant, month, cell.get("name", ""), cell.get("day", ""), words, locale
             )
         found.append(_answer(said))
@@ -232,7 +234,7 @@ def judged(request: HttpRequest, period: str) -> HttpResponse:
 
 def judged_by(request: HttpRequest, period: str, kind: str) -> HttpResponse:
     """Give a page what it needs to judge the cells of its grid by itself."""
-    month = month_of(request, period)
+    month = month_in_address(request, period)
     return JsonResponse({"rules": judging_rules(request.plant, month, kind, typing_locale())})
 
 
@@ -240,5 +242,7 @@ def _answer(said: Judged) -> dict[str, object]:
     """Return what is said of a cell for the page."""
     from plantbal_office.shown import t
 
-    volume = in_language(plain(Decimal(said.ml) / 10**6)) if said.ml is not None else ""
+    volume = (
+        in_language(number_with_commas(Decimal(said.ml) / 10**6)) if said.ml is not None else ""
+    )
     return {"level": said.level, "said": said.said, "mass": t(said.grams), "volume": volume}

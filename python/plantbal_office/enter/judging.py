@@ -26,8 +26,8 @@ from plantbal.workbook.units import AMOUNTS
 from plantbal_office.causes import GridCause, GridRemedy
 from plantbal_office.look.days import place_of
 from plantbal_office.plants.models import Plant
-from plantbal_office.sentences import refusal_said
-from plantbal_office.shelf import contents_of, facts_of
+from plantbal_office.sentences import refusal_said, said
+from plantbal_office.shelf import book_contents, period_facts
 
 # A reading beyond this many times the median of its others, or below a part of it, is told.
 FAR = 3
@@ -60,21 +60,27 @@ class Judged:
     ml: int | None = None
 
 
-def judge(
+def judge_typed(
     plant: Plant, month: BookMonth, name: str, day: str, words: dict[str, str], locale: str
 ) -> Judged:
     """Return what is said of a typed reading or dip."""
     try:
         when = datetime.date.fromisoformat(day)
-        place = place_of(contents_of(plant), month, name)
-        found = facts_of(plant, month.name)
+        place = place_of(book_contents(plant), month, name)
+        found = period_facts(plant, month.name)
         reader = Reader(check_locale(locale))
         if isinstance(place, BookStream):
             return _reading(found, place, when, words.get("amount", ""), reader)
         return _dip(found, place, when, words, reader)
     except (Fault, ValueError) as error:
-        said = f"{error.what}: {error.remedy}" if isinstance(error, Fault) else str(error)
-        return Judged(FAULT, said.rstrip(": "))
+        return Judged(FAULT, _wrong(error))
+
+
+def _wrong(error: Fault | ValueError) -> str:
+    """Return what is wrong with a cell, and what to do about it."""
+    if not isinstance(error, Fault):
+        return str(error)
+    return f"{said(error.what)}: {said(error.remedy)}" if error.remedy else said(error.what)
 
 
 def _reading(
@@ -88,7 +94,7 @@ def _reading(
     error = meter.error if meter is not None and meter.error is not None else Error()
     if not grams and not error.grams:
         what, remedy = SheetCause.ZERO_WITHOUT_ERROR(), GridRemedy.ERROR_IN_TONNES()
-        raise Fault(str(what), remedy=str(remedy))
+        raise Fault(what.sentence, remedy=remedy.sentence)
     values = str(grams), str(error.variance(grams))
     refused = typed_refusal(found.state, typed_row(found.state, "reading", place.name, day, values))
     if refused:
@@ -99,10 +105,11 @@ def _reading(
         if each.fact.place == place.name and not each.struck and each.fact.first != day
     )
     if grams < 0:
-        return Judged(LOOK, str(GridCause.RUNS_BACK()), grams)
+        return Judged(LOOK, said(GridCause.RUNS_BACK().sentence), grams)
     middle = others[len(others) // 2] if len(others) >= ENOUGH else 0
     if middle > 0 and not middle <= FAR * grams <= FAR * FAR * middle:
-        return Judged(LOOK, str(GridCause.FAR(percent=round(Fraction(100 * grams, middle)))), grams)
+        far = GridCause.FAR(percent=round(Fraction(100 * grams, middle)))
+        return Judged(LOOK, said(far.sentence), grams)
     return Judged(GOOD, "", grams)
 
 
@@ -116,7 +123,8 @@ def _dip(
     density = reader.density(cell_of(words.get("density", "")))
     density = density or (place.meter.density if place.meter is not None else None)
     if density is None:
-        raise Fault(str(SheetCause.DENSITY_MISSING()), remedy=str(GridRemedy.DENSITY_BESIDE()))
+        what, remedy = SheetCause.DENSITY_MISSING(), GridRemedy.DENSITY_BESIDE()
+        raise Fault(what.sentence, remedy=remedy.sentence)
     values = str(mm), str(round(density)), "1"
     refused = typed_refusal(found.state, typed_row(found.state, "dip", place.name, day, values))
     if refused:
@@ -160,10 +168,10 @@ def typed_refusal(state: State, fields: tuple[str, ...]) -> str:
 def judge_ticket(plant: Plant, month: BookMonth, words: dict[str, str], locale: str) -> Judged:
     """Return what is said of a typed ticket."""
     try:
-        place = place_of(contents_of(plant), month, words.get("stream", ""))
+        place = place_of(book_contents(plant), month, words.get("stream", ""))
         if not isinstance(place, BookStream) or place.kind == "metered":
             what = GridCause.NO_TICKETS(name=place.name)
-            raise Fault(str(what), remedy=str(GridRemedy.NAME_SOLD()))
+            raise Fault(what.sentence, remedy=GridRemedy.NAME_SOLD().sentence)
         reader = Reader(check_locale(locale))
         usual = (place.meter.unit if place.meter is not None else "") or "t"
         unit = reader.unit(cell_of(words.get("unit", "")), AMOUNTS, usual)
@@ -180,8 +188,7 @@ def judge_ticket(plant: Plant, month: BookMonth, words: dict[str, str], locale: 
             str(grams),
             "1",
         )
-        refused = typed_refusal(facts_of(plant, month.name).state, fields)
+        refused = typed_refusal(period_facts(plant, month.name).state, fields)
         return Judged(FAULT if refused else GOOD, refused, grams)
     except (Fault, ValueError) as error:
-        said = f"{error.what}: {error.remedy}" if isinstance(error, Fault) else str(error)
-        return Judged(FAULT, said.rstrip(": "))
+        return Judged(FAULT, _wrong(error))

@@ -15,7 +15,7 @@ from pathlib import Path
 from django.utils.translation import gettext as _
 
 from plantbal.faults import Fault
-from plantbal.workbook.mapping.applying import mapping_of
+from plantbal.workbook.mapping.applying import sheet_mapping
 from plantbal.workbook.mapping.form import (
     DAY_OF_MONTH,
     HOUR,
@@ -117,7 +117,7 @@ def wants_mapping(drop: Drop, kept: WorkbookMapping | None, known: KnownPlant) -
 
 def is_unknown(sheet: Sheet, kept: WorkbookMapping | None) -> bool:
     """Say whether neither the book's mapping nor its name says what a sheet is."""
-    if kept is not None and mapping_of(kept, sheet) is not None:
+    if kept is not None and sheet_mapping(kept, sheet) is not None:
         return False
     word = re.split(r"[^a-z]", sheet.name.strip().casefold(), maxsplit=1)[0]
     return word not in SHEETS and word not in PASSED
@@ -132,7 +132,7 @@ def accepted(drop: Drop) -> WorkbookMapping | None:
     return parse_mapping(KEPT, place.read_text(encoding="utf-8")) if place.is_file() else None
 
 
-def reading_of(drop: Drop) -> ReadingOptions:
+def drop_reading(drop: Drop) -> ReadingOptions:
     """Return how a workbook is read: by its mapping, or by the locale that was chosen with it."""
     mapping = accepted(drop)
     return ReadingOptions(mapping=mapping) if mapping is not None else options_of(drop.locale)
@@ -144,7 +144,7 @@ def mapped_at(drop: Drop) -> int:
     return place.stat().st_mtime_ns if place.is_file() else 0
 
 
-def accept(drop: Drop, mapping: WorkbookMapping) -> None:
+def keep_mapping(drop: Drop, mapping: WorkbookMapping) -> None:
     """Keep a mapping beside its workbook.
 
     Raises
@@ -155,7 +155,7 @@ def accept(drop: Drop, mapping: WorkbookMapping) -> None:
     questions = MappingProposal(mapping).open()
     if questions:
         what = _("{count} questions are still open").format(count=len(questions))
-        raise Fault(what, remedy=_("answer them, or say that a column or a sheet isn't read"))
+        raise Fault(what, remedy=_("answer them, or choose 'not read' for the column or sheet"))
     text = mapping_text(mapping, {}, "")
     parse_mapping(path_of(drop).name, text)
     place = folder_of(drop) / KEPT
@@ -200,7 +200,7 @@ def proposal_of(
     if base is not None:
         found = _merged(found, base, sheets, kinds, is_accepted=accepted(drop) is not None)
     if drop.locale and found.mapping.locale in (OPEN, ""):
-        found.evidence["locale",] = _("as it was chosen with the workbook")
+        found.evidence["locale",] = _("as chosen with the workbook")
         found.mapping = replace(found.mapping, locale=drop.locale)
     return found, sheets
 
@@ -214,11 +214,11 @@ def _merged(
     is_accepted: bool,
 ) -> MappingProposal:
     """Return a proposal with what a mapping says already; its other sheets come last."""
-    said = _("as you have said it") if is_accepted else _("the book's mapping says so")
+    said = _("as you have set it") if is_accepted else _("the book's mapping says so")
     evidence = dict(found.evidence)
     made, taken = [], set()
     for at, (sheet, own) in enumerate(zip(sheets, found.mapping.sheets)):
-        there = mapping_of(base, sheet)
+        there = sheet_mapping(base, sheet)
         if there is not None and kinds.get(sheet.name, there.kind) == there.kind:
             taken.add(there.name)
             own = there
@@ -379,7 +379,7 @@ def _others(
         found.append((f"year-{at}", _("year"), own.year, why.get(("year",), "")))
     for what, pairs in (("given", own.given), ("counters", own.counters)):
         for n, (key, to) in enumerate(pairs.items()):
-            label = key if what == "given" else _("counter {name} begins again at").format(name=key)
+            label = key if what == "given" else _("counter {name} starts again at").format(name=key)
             found.append((f"{what}-{at}-{n}", label, to, why.get((what, key), "")))
     return found
 

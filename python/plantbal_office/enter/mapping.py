@@ -21,16 +21,16 @@ from plantbal_office.deeds.once import once
 from plantbal_office.enter.drops import LOCALES
 from plantbal_office.enter.mapped import (
     MappedSheet,
-    accept,
     changed_by,
     forms_of,
+    keep_mapping,
     kinds_said,
     proposal_of,
     wants_mapping,
 )
 from plantbal_office.enter.models import Drop
 from plantbal_office.plants.models import Plant
-from plantbal_office.shelf import KEPT, contents_of, plain_book
+from plantbal_office.shelf import KEPT, book_contents, plain_book
 
 
 @dataclass
@@ -91,7 +91,7 @@ def _locales(mapping: WorkbookMapping) -> list[tuple[str, object]]:
     return [*own, *LOCALES]
 
 
-def asked_of(
+def mapping_page_of(
     request: HttpRequest, drop: Drop, kept: WorkbookMapping | None, known: KnownPlant
 ) -> MappingPage:
     """Return what is asked of a workbook, with the answers of the form if one was sent."""
@@ -121,22 +121,22 @@ def known_of(contents: Contents) -> KnownPlant:
     )
 
 
-def is_wanted(plant: Plant, drop: Drop) -> bool:
+def asks_mapping(plant: Plant, drop: Drop) -> bool:
     """Say whether a workbook has to be told how it is read."""
     make = lambda: wants_mapping(  # noqa: E731
-        drop, plain_book(plant).mapping(), known_of(contents_of(plant))
+        drop, plain_book(plant).mapping(), known_of(book_contents(plant))
     )
     return KEPT.of(Path(plant.folder), "wanted", (str(drop.pk),), make)
 
 
-def mapping(request: HttpRequest, drop: str) -> HttpResponse:
+def mapping_page(request: HttpRequest, drop: str) -> HttpResponse:
     """Show how a workbook would be read, and go on to what it would do."""
     found = get_object_or_404(Drop, pk=drop, plant=request.plant, is_typed=False)
     kept = plain_book(request.plant).mapping()
 
     def take(asked: MappingPage) -> str:
-        accept(found, asked.found.mapping)
+        keep_mapping(found, asked.found.mapping)
         return reverse("enter:seen", args=[request.plant.slug, found.pk])
 
-    known = known_of(contents_of(request.plant))
-    return asked_of(request, found, kept, known).answer(request, take)
+    known = known_of(book_contents(request.plant))
+    return mapping_page_of(request, found, kept, known).answer(request, take)

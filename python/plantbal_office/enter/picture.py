@@ -10,6 +10,7 @@ from pathlib import Path
 
 from plantbal.faults import Fault, Faults, Place
 from plantbal.workbook.sheets import Sheet, letters, read_workbook
+from plantbal_office.sentences import said
 
 # How many faults have a picture, and how much of a sheet stands around each.
 MOST = 60
@@ -93,7 +94,7 @@ def pictures_of(fault: Fault, workbook: Path) -> tuple[list[SheetPicture], list[
         if at is None or not line or sum(map(len, by_sheet.values())) >= MOST:
             rest.append(each)
             continue
-        by_sheet[at].append(FaultPlace(line, column, each.what, each.remedy))
+        by_sheet[at].append(FaultPlace(line, column, said(each.what), said(each.remedy)))
     return [_picture(sheets[at], found) for at, found in by_sheet.items()], rest
 
 

@@ -36,8 +36,8 @@ from plantbal_office.causes import GridCause, GridRemedy
 from plantbal_office.enter.judging import ENOUGH, FAR, WHY, free_id, typed_row
 from plantbal_office.enter.typed import MOST_CELLS
 from plantbal_office.plants.models import Plant
-from plantbal_office.sentences import refusal_said
-from plantbal_office.shelf import contents_of, facts_of
+from plantbal_office.sentences import refusal_said, said
+from plantbal_office.shelf import book_contents, period_facts
 
 # The form of what is given: a script that knows another one asks the server for each cell.
 FORM = 1
@@ -76,7 +76,7 @@ def judging_rules(plant: Plant, month: BookMonth, kind: str, locale: str) -> dic
     locale : str
         Whose numbers and days are typed.
     """
-    found = facts_of(plant, month.name)
+    found = period_facts(plant, month.name)
     state = found.state
     is_full = len(state.facts) + MOST_CELLS > LIMITS["most_facts"]
     if kind not in JUDGED or is_full:
@@ -87,7 +87,7 @@ def judging_rules(plant: Plant, month: BookMonth, kind: str, locale: str) -> dic
         if len(transfers) > MOST_TICKETS:
             return None
         tickets = {each.id: [each.of, "struck" if each.struck else ""] for each in transfers}
-    contents = contents_of(plant)
+    contents = book_contents(plant)
     places: list[BookStream | Vessel] = [
         *contents.flows[month.year],
         *contents.vessels[month.year],
@@ -236,12 +236,12 @@ def _of_tickets(state: State, places: Sequence[BookStream | Vessel]) -> dict[str
     streams = [each for each in places if isinstance(each, BookStream)]
     return {
         "name": {
-            "text": FORM_OF_TEXT,
-            "nothing": FORM_OF_NOTHING,
-            "form": NAME_FORM,
-            "letters": NAME_LETTERS,
-            "long": NAME_LONG,
-            "such": NAME_SUCH,
+            "text": said(FORM_OF_TEXT),
+            "nothing": said(FORM_OF_NOTHING),
+            "form": said(NAME_FORM),
+            "letters": said(NAME_LETTERS),
+            "long": said(NAME_LONG),
+            "such": said(NAME_SUCH),
             "most": LIMITS["most_name"],
         },
         "day": {
@@ -301,7 +301,13 @@ def _reading(locale: str) -> dict[str, Any]:
         "months": cells.month_names(own),
         "epoch": str(EPOCH),
         "serials": cells.SERIALS,
-        "units": exact | {"known": known, "words": units.OTHER_WORDS, "wet": list(units.WET)},
+        "units": exact
+        | {
+            "known": known,
+            "words": units.OTHER_WORDS,
+            "wet": list(units.WET),
+            "megalitres": units.MEGALITRES,
+        },
         "tons": cells.OTHER_TONS,
         "missing": sorted(cells.MISSING),
         "digits": limits.DIGITS,
@@ -319,4 +325,4 @@ def _reading(locale: str) -> dict[str, Any]:
 def _words() -> dict[str, str]:
     """Return the sentences of causes and remedies by their names."""
     enums = (*_SHEET, *GridCause, *CellRemedy, *GridRemedy)
-    return {each.name: str(each.value) for each in enums} | {"OWN_LOCALE": cells.OWN_LOCALE}
+    return {each.name: said(str(each.value)) for each in enums} | {"OWN_LOCALE": cells.OWN_LOCALE}

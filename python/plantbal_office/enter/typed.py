@@ -41,9 +41,9 @@ def cells_of(text: str) -> list[dict[str, str]]:
     try:
         found = json.loads(text)
     except (ValueError, RecursionError) as error:
-        raise Fault(_("this grid can't be read"), remedy=_("load the page again")) from error
+        raise Fault(_("this grid can't be read"), remedy=_("reload the page")) from error
     if not isinstance(found, list) or len(found) > MOST_CELLS:
-        raise Fault(_("this is more than a grid has"), remedy=_("drop a workbook instead"))
+        raise Fault(_("this is more than the grid holds"), remedy=_("drop a workbook instead"))
     for each in found:
         is_row = isinstance(each, dict) and len(each) <= 12
         if not is_row or not all(_is_text(key) and _is_text(each[key]) for key in each):

@@ -7,13 +7,13 @@ from plantbal_office.enter import grid, mapping, views
 app_name = "enter"
 urlpatterns = [
     path("", views.drop, name="drop"),
-    path("template", views.template, name="template"),
+    path("template", views.template_page, name="template"),
     path("<uuid:drop>", views.seen, name="seen"),
-    path("<uuid:drop>/mapping", mapping.mapping, name="mapping"),
+    path("<uuid:drop>/mapping", mapping.mapping_page, name="mapping"),
     path("<uuid:drop>/book", views.book, name="book"),
     path("<uuid:drop>/forget", views.put_aside, name="forget"),
     path("grid/<str:period>/<slug:kind>", grid.grid, name="grid"),
-    path("tests", grid.tests, name="tests"),
+    path("tests", grid.tests_page, name="tests"),
     path("judge/<str:period>", grid.judged, name="judge"),
     path("rules/<str:period>/<slug:kind>", grid.judged_by, name="rules"),
 ]

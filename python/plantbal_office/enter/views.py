@@ -18,7 +18,7 @@ from plantbal.book.adding import Unreasoned
 from plantbal.book.approval.submitting import Submitted
 from plantbal.book.library import Book
 from plantbal.book.results import Added
-from plantbal.commands.book.adding import lines_of
+from plantbal.commands.book.adding import added_lines
 from plantbal.faults import Fault
 from plantbal_office.deeds.once import once
 from plantbal_office.effects import TRIED, Trial, months_added, tried
@@ -26,19 +26,19 @@ from plantbal_office.enter.drops import (
     LOCALES,
     files_in,
     forget,
-    keep,
+    keep_drop,
     path_of,
     tabled_of,
     typed_reading,
     without_folders,
     workbooks_of,
 )
-from plantbal_office.enter.mapped import mapped_at, reading_of
-from plantbal_office.enter.mapping import is_wanted
+from plantbal_office.enter.mapped import drop_reading, mapped_at
+from plantbal_office.enter.mapping import asks_mapping
 from plantbal_office.enter.models import Drop
 from plantbal_office.enter.picture import pictures_of
 from plantbal_office.plants.models import Plant
-from plantbal_office.shelf import KEPT, book_of, contents_of
+from plantbal_office.shelf import KEPT, book_contents, book_of
 
 log = logging.getLogger("plantbal_office")
 
@@ -67,8 +67,10 @@ def drop(request: HttpRequest) -> HttpResponse:
         def act() -> str:
             found = workbooks_of(files_in(request), request.POST.get("called", ""))
             if not found:
-                raise Fault(_("there is no workbook"), remedy=_("choose a file, or drop one here"))
-            made = [keep(request, name, files, locale) for name, files in found]
+                raise Fault(
+                    _("no workbook was chosen"), remedy=_("choose a file, or drop one here")
+                )
+            made = [keep_drop(request, name, files, locale) for name, files in found]
             Plant.objects.filter(pk=plant.pk).update(locale=locale)
             return reverse("enter:seen", args=[plant.slug, made[0].pk])
 
@@ -78,7 +80,7 @@ def drop(request: HttpRequest) -> HttpResponse:
             fault = found
     waiting = Drop.objects.filter(plant=plant).select_related("person").order_by("made")
     words = {"locales": LOCALES, "fault": fault, "waiting": waiting, "section": "enter"}
-    words["months"] = list(reversed([m for m in contents_of(plant).months if not m.closed]))
+    words["months"] = list(reversed([m for m in book_contents(plant).months if not m.closed]))
     return render(request, "enter/drop.html", words, status=400 if fault else 200)
 
 
@@ -93,7 +95,7 @@ def act_of(found: Drop, how: dict[str, object], why: str) -> Callable[[Book], Ad
             why=why,
             strike=bool(how.get("strike")),
             anyway=bool(how.get("anyway")),
-            reading=reading_of(found),
+            reading=drop_reading(found),
         )
 
     return act
@@ -111,10 +113,10 @@ def seen(request: HttpRequest, drop: str) -> HttpResponse:
     found = get_object_or_404(Drop, pk=drop, plant=request.plant)
     form = How(request.GET)
     how = form.cleaned_data if form.is_valid() else {}
-    version = contents_of(request.plant).version
+    version = book_contents(request.plant).version
     is_mapped = mapped_at(found) > 0
     if not found.is_typed and not is_mapped and "plain" not in request.GET:
-        if is_wanted(request.plant, found):
+        if asks_mapping(request.plant, found):
             return redirect("enter:mapping", request.plant.slug, found.pk)
     trial = trial_of(request.plant, found, how)
     words = {"drop": found, "version": version, "how": How(initial=how), "section": "enter"}
@@ -124,12 +126,12 @@ def seen(request: HttpRequest, drop: str) -> HttpResponse:
         pictures, rest = pictures_of(trial.fault, path_of(found))
         words |= {"fault": trial.fault, "pictures": pictures, "rest": rest}
         return render(request, "enter/faults.html", words)
-    words |= what_of(trial)
+    words |= trial_shown(trial)
     words["strike"] = words["added"].struck
     return render(request, "enter/seen.html", words)
 
 
-def what_of(trial: Trial) -> dict[str, object]:
+def trial_shown(trial: Trial) -> dict[str, object]:
     """Return what a page shows of a workbook that can be booked."""
     added = trial.result
     assert isinstance(added, Added)
@@ -167,7 +169,7 @@ def book(request: HttpRequest, drop: str) -> HttpResponse:
 
     def act() -> str:
         if found is None:
-            what = _("this workbook is no longer waiting: it was booked, or put aside")
+            what = _("this workbook is no longer waiting: it was booked, or discarded")
             raise Fault(what, remedy=_("look at the months"))
         how = form.cleaned_data
         try:
@@ -175,20 +177,20 @@ def book(request: HttpRequest, drop: str) -> HttpResponse:
         except Submitted:
             forget(found)  # what waits has its rows
             raise
-        for line in lines_of(added):
+        for line in added_lines(added):
             messages.success(request, without_folders(line))
         forget(found)
         rest = Drop.objects.filter(plant=request.plant, person=request.user).order_by("made")
         if rest.exists():
             return reverse("enter:seen", args=[request.plant.slug, rest[0].pk])
-        then = months_added(added, contents_of(request.plant))
+        then = months_added(added, book_contents(request.plant))
         anchor = f"#m-{then[-1]}" if then else ""
         return reverse("plants:months", args=[request.plant.slug]) + anchor
 
     try:
         return once(request, act)
     except Unreasoned as fault:
-        messages.error(request, _("A change needs a reason: say why."))
+        messages.error(request, _("A change needs a reason: enter one."))
         log.info("unreasoned: %s", fault)
         return redirect("enter:seen", request.plant.slug, drop)
 
@@ -200,12 +202,12 @@ def put_aside(request: HttpRequest, drop: str) -> HttpResponse:
         name = found.name
         forget(found)
         messages.info(
-            request, _("{name} is put aside: nothing of it was booked.").format(name=name)
+            request, _("{name} is discarded: nothing of it was booked.").format(name=name)
         )
     return redirect("enter:drop", request.plant.slug)
 
 
-def template(request: HttpRequest) -> HttpResponse:
+def template_page(request: HttpRequest) -> HttpResponse:
     """Give an empty workbook with the sheets that are read."""
     import tempfile
 

@@ -14,15 +14,15 @@ from plantbal.estimates import is_marked
 from plantbal.faults import Fault
 from plantbal.model.plant import in_service
 from plantbal_office.causes import GridCause
-from plantbal_office.effects import flows_of, kept_output
+from plantbal_office.effects import booked_flows, kept_output
 from plantbal_office.plants.models import Plant
-from plantbal_office.shelf import contents_of, facts_of
+from plantbal_office.shelf import book_contents, period_facts
 
 _DAY = datetime.timedelta(1)
 
 
 @dataclass(frozen=True)
-class Day:
+class DayShown:
     """A day of a stream or a tank, with what is booked of it.
 
     Attributes
@@ -75,12 +75,12 @@ def place_of(contents: Contents, month: BookMonth, name: str) -> BookStream | Ve
         tag = each.meter.tag if each.meter is not None else ""
         if name == each.name or (tag and name == tag):
             return each
-    raise Fault(str(GridCause.NO_PLACE(name=name, month=month.name)), text=name)
+    raise Fault(GridCause.NO_PLACE(name=name, month=month.name).sentence, text=name)
 
 
-def days_of(plant: Plant, month: BookMonth, place: BookStream | Vessel) -> list[Day]:
+def month_days(plant: Plant, month: BookMonth, place: BookStream | Vessel) -> list[DayShown]:
     """Return the days of a stream or a tank in a month, the days without a figure too."""
-    found: MonthFacts = facts_of(plant, month.name)
+    found: MonthFacts = period_facts(plant, month.name)
     own = [each for each in found.facts if each.fact.place == place.name]
     if isinstance(place, BookStream) and place.kind != "metered":
         return [_day(each.fact.first, each, place, None) for each in own]
@@ -110,13 +110,13 @@ def _day(
     middle: float | None,
     *,
     is_wanted: bool = False,
-) -> Day:
+) -> DayShown:
     """Return a day with what is booked of it."""
     if shown is None:
-        return Day(day, None, is_missing=is_wanted)
+        return DayShown(day, None, is_missing=is_wanted)
     fact = shown.fact
     usual = 100 * fact.values[0] / middle if middle and fact.kind == "reading" else None
-    return Day(
+    return DayShown(
         day,
         shown,
         is_missing=is_wanted and shown.struck,
@@ -132,14 +132,14 @@ def _median(values: list[int]) -> float | None:
     return float(some[len(some) // 2]) if some else None
 
 
-def months_of(plant: Plant, name: str, most: int = 36) -> list[Year]:
+def stream_months(plant: Plant, name: str, most: int = 36) -> list[Year]:
     """Return the months of a stream, the latest first, with the flow that is booked in each."""
-    contents = contents_of(plant)
+    contents = book_contents(plant)
     found = []
     for month in list(reversed(contents.months))[:most]:
         output = None
         if month.report is not ReportState.MISSING:
             output = kept_output(plant, contents, month.name)
-        flow = flows_of(output).get(name) if output is not None else None
+        flow = booked_flows(output).get(name) if output is not None else None
         found.append(Year(month, flow))
     return found

@@ -7,22 +7,28 @@ readings. Attributes of style are moved aside, since the desk allows none; its s
 
 from __future__ import annotations
 
+import hashlib
 import re
+import zlib
 from dataclasses import dataclass
 from pathlib import Path
 
 from django.urls import reverse
-from django.utils.html import escape
+from django.utils.html import escape, format_html
+from django.utils.safestring import SafeString
+from django.utils.translation import get_language
+from django.utils.translation import gettext as _
 
 from plantbal.page.books import booked
 from plantbal.page.command import Source, prepare
-from plantbal.page.gates import told_of
+from plantbal.page.gates import closing_notes
 from plantbal.page.head import Origin
-from plantbal.page.render import render
+from plantbal.page.render import render, speaking
 from plantbal.page.statement import Prepared
 from plantbal.report.parsing import parse_rows
 from plantbal_office.plants.models import Plant
-from plantbal_office.shelf import KEPT, contents_of, plain_book
+from plantbal_office.sentences import spoken
+from plantbal_office.shelf import KEPT, book_contents, plain_book
 
 _MAIN = re.compile(r"<main>(.*)</main>", re.DOTALL)
 _FOOT = re.compile(r"<footer>(.*)</footer>", re.DOTALL)
@@ -33,10 +39,16 @@ _ROW = re.compile(
 # What is said of one error, its set of suspects, and names in it.
 _HOLE = re.compile(r'<li><p class="hole">.*?</ul></li>', re.DOTALL)
 _HEAD = re.compile(r"<b>(.*?)</b>", re.DOTALL)
+# A day: of another language it has beside it how a session writes it.
+_DAY = re.compile(
+    r'<span class="day">(?P<iso>\d{4}-\d\d-\d\d)</span>'
+    r'|<span class="day" data-day="(?P<own>\d{4}-\d\d-\d\d)">[^<]*</span>'
+)
 _STREAM = re.compile(r"[A-Za-z0-9_.-]+")
-# The bounds and certificates of a period, and how many bytes of them are within its page.
-_PROOF = re.compile(r'<details class="proof"><summary>(.*?)</summary>.*?</details>', re.DOTALL)
+# How many letters of bounds and certificates are within a page.
 MOST_PROOF = 600_000
+# A name in place of which each stream's is put.
+_ANY = "ANY-STREAM"
 # How long Graphviz has for the drawing of a page.
 SECONDS = 8.0
 
@@ -45,31 +57,42 @@ SECONDS = 8.0
 class ShownStatement:
     """A statement as it is shown: what is in it, its foot, and what there is to say of it.
 
-    The bounds and certificates of a large plant are apart, and come after the page.
+    The bounds and certificates of a large plant are apart, packed, and come after the page.
     """
 
     body: str
     foot: str
     has_worth: bool
     said: tuple[str, ...]
-    proof: str = ""
+    packed: bytes = b""
+
+    @property
+    def proof(self) -> bytes:
+        """The bounds and certificates, if they aren't within the body."""
+        return zlib.decompress(self.packed) if self.packed else b""
 
 
 def prepared_of(plant: Plant, period: str, number: int | None = None) -> tuple[Prepared, Source]:
     """Return what a statement shows, and what it is made of."""
+    source, _digest = _source_of(plant, period, number)
+    return prepare(source), source
+
+
+def _source_of(plant: Plant, period: str, number: int | None = None) -> tuple[Source, str]:
+    """Return what a statement is made of, and the digest of its report."""
     kept = plain_book(plant).kept(period, number)
     rows = parse_rows(f"the report of {period}", kept.text)
     session = (f"{plant.name}.csv", kept.session.encode("ascii")) if kept.rows else None
-    told = told_of(plant.folder)
-    source = Source(rows, f"the report of {period}", session, told=told)
-    return prepare(source), source
+    told = closing_notes(plant.folder)
+    digest = hashlib.sha256(kept.text.encode("utf-8")).hexdigest()
+    return Source(rows, f"the report of {period}", session, told=told), digest
 
 
 def whole_page(plant: Plant, period: str) -> str:
     """Return the statement as a page of its own, for a file or for paper."""
     prepared, source = prepared_of(plant, period)
     added = booked(plant.folder, source.rows)
-    head = str(contents_of(plant).version)
+    head = str(book_contents(plant).version)
     origin = Origin(plant.name, "", None, head)
     title = f"{plant.name} {period}"
     return render(prepared, title=title, origin=origin, seconds=SECONDS, parts=added.parts)
@@ -79,29 +102,38 @@ def statement_of(plant: Plant, period: str, number: int | None = None) -> ShownS
     """Return the statement of a month as the desk shows it."""
 
     def make() -> ShownStatement:
-        prepared, source = prepared_of(plant, period, number)
-        added = booked(plant.folder, source.rows if number is None else ())
-        page = render(prepared, title=period, seconds=SECONDS, parts=added.parts)
-        body, proof = _parted(plant, period, number, _inner(_MAIN, page))
+        source, digest = _source_of(plant, period, number)
+        prepared = prepare(source)
+        with speaking(spoken()):
+            added = booked(plant.folder, source.rows if number is None else (), digest)
+        del source
+        packed: list[bytes] = []
+
+        def apart(text: str) -> str:
+            """Keep what is too long for the page."""
+            if number is not None or len(text) <= MOST_PROOF:
+                return text
+            packed.append(zlib.compress(text.encode("utf-8"), 1))
+            return _way_to_proof(plant, period)
+
+        with speaking(spoken()):
+            page = render(prepared, title=period, seconds=SECONDS, parts=added.parts, apart=apart)
         return ShownStatement(
-            linked(plant, period, body),
+            linked(plant, period, _inner(_MAIN, page)),
             _inner(_FOOT, page),
             "without-worth" not in page.partition("<body")[2].partition(">")[0],
             tuple(added.said),
-            proof,
+            b"".join(packed[-1:]),
         )
 
-    return KEPT.of(Path(plant.folder), "page", (period, number), make)
+    return KEPT.of(Path(plant.folder), "page", (period, number, get_language()), make)
 
 
-def _parted(plant: Plant, period: str, number: int | None, body: str) -> tuple[str, str]:
-    """Return the body of a statement, and its bounds and certificates if they come after it."""
-    found = _PROOF.search(body)
-    if number is not None or found is None or len(found[0]) <= MOST_PROOF:
-        return body, ""
-    address = escape(reverse("look:proof", args=[plant.slug, period]))
-    there = f'<div data-load="{address}"><a href="{address}">{found[1]}</a></div>'
-    return body[: found.start()] + there + body[found.end() :], found[0]
+def _way_to_proof(plant: Plant, period: str) -> SafeString:
+    """Return what stands in place of bounds and certificates: a link, which a script follows."""
+    address = reverse("look:proof", args=[plant.slug, period])
+    link = '<div data-load="{}"><a href="{}">{}</a></div>'
+    return format_html(link, address, address, _("Bounds, tests and certificates"))
 
 
 def _inner(pattern: re.Pattern[str], page: str) -> str:
@@ -118,8 +150,11 @@ def inner_main(page: str) -> str:
 def linked(plant: Plant, period: str, body: str) -> str:
     """Return the body of a statement with a link from each stream and tank to its readings."""
 
+    # of 2,000 streams each address would be found anew, and names need no quoting
+    front, _, rest = reverse("look:stream", args=[plant.slug, period, _ANY]).partition(_ANY)
+
     def link(found: re.Match[str]) -> str:
-        address = escape(reverse("look:stream", args=[plant.slug, period, found[2]]))
+        address = escape(f"{front}{found[2]}{rest}")
         return f'{found[1]}<a href="{address}">{found[3]}</a>{found[4]}'
 
     return _HOLE.sub(lambda found: _hole(plant, period, found[0]), _ROW.sub(link, body))
@@ -129,9 +164,9 @@ def _hole(plant: Plant, period: str, text: str) -> str:
     """Return what is said of an error with links from its streams and its days to the readings."""
     head = _HEAD.search(text)
     names = _STREAM.findall(head[1]) if head else []
-    month = contents_of(plant).month(period)
+    month = book_contents(plant).month(period)
     year = month.year if month is not None else ""
-    contents = contents_of(plant)
+    contents = book_contents(plant)
     there = {each.name for each in contents.flows.get(year, ())}
     there |= {each.name for each in contents.vessels.get(year, ())}
     known = [name for name in names if name in there]
@@ -142,6 +177,10 @@ def _hole(plant: Plant, period: str, text: str) -> str:
         )
     if known:
         address = escape(reverse("look:stream", args=[plant.slug, period, known[0]]))
-        link = rf'<a href="{address}#d-\1">\g<0></a>'
-        text = re.sub(r'<span class="day">(\d{4}-\d\d-\d\d)</span>', link, text)
+        text = _DAY.sub(lambda day: _day_link(address, day), text)
     return text
+
+
+def _day_link(address: str, day: re.Match[str]) -> str:
+    """Return a day with a link to it among a stream's readings."""
+    return f'<a href="{address}#d-{day["iso"] or day["own"]}">{day[0]}</a>'

@@ -15,20 +15,20 @@ from plantbal.book.results import ReportState
 from plantbal.commands.book.showing import in_unit
 from plantbal.estimates import is_marked
 from plantbal.faults import Fault
-from plantbal_office.look.days import days_of, months_of, place_of
+from plantbal_office.look.days import month_days, place_of, stream_months
 from plantbal_office.look.statement import prepared_of, statement_of, whole_page
 from plantbal_office.notes.models import Note
 from plantbal_office.plants.models import Plant
 from plantbal_office.plants.standing import stand_of
-from plantbal_office.shelf import contents_of, plain_book
+from plantbal_office.shelf import book_contents, plain_book
 
 LINES = 200  # of the journal on a page
 XLSX = "application/vnd.openxmlformats-officedocument.spreadsheetml.sheet"
 
 
-def month_of(request: HttpRequest, period: str) -> BookMonth:
+def month_in_address(request: HttpRequest, period: str) -> BookMonth:
     """Return the month that an address names."""
-    month = contents_of(request.plant).month(period)
+    month = book_contents(request.plant).month(period)
     if month is None:
         raise Http404
     return month
@@ -36,8 +36,8 @@ def month_of(request: HttpRequest, period: str) -> BookMonth:
 
 def statement(request: HttpRequest, period: str) -> HttpResponse:
     """Show the statement of a month, as its report is kept."""
-    month = month_of(request, period)
-    contents = contents_of(request.plant)
+    month = month_in_address(request, period)
+    contents = book_contents(request.plant)
     stand = stand_of(request.plant, month)
     names = [each.name for each in contents.months]
     at = names.index(period)
@@ -66,7 +66,7 @@ def notes_on(request: HttpRequest, about: str) -> dict[str, object]:
 
 def proof(request: HttpRequest, period: str) -> HttpResponse:
     """Give the bounds and certificates of a large plant, which its page loads after itself."""
-    month = month_of(request, period)
+    month = month_in_address(request, period)
     if month.report is ReportState.MISSING:
         raise Fault(_("there is no report yet"), remedy=_("make one first"))
     return HttpResponse(statement_of(request.plant, period).proof)
@@ -74,7 +74,7 @@ def proof(request: HttpRequest, period: str) -> HttpResponse:
 
 def earlier(request: HttpRequest, period: str, number: int) -> HttpResponse:
     """Show an earlier report of a month, which went out once."""
-    month = month_of(request, period)
+    month = month_in_address(request, period)
     shown = statement_of(request.plant, period, number)
     words = {"month": month, "shown": shown, "number": number, "section": "statement"}
     return render(request, "look/earlier.html", words)
@@ -82,9 +82,9 @@ def earlier(request: HttpRequest, period: str, number: int) -> HttpResponse:
 
 def drawing(request: HttpRequest, period: str) -> HttpResponse:
     """Show the drawing of a month by itself, to zoom and to search in."""
-    month = month_of(request, period)
+    month = month_in_address(request, period)
     if month.report is ReportState.MISSING:
-        raise Fault(_("there is no report yet, and the drawing is made of one"))
+        raise Fault(_("there is no report yet, and the drawing is made from one"))
     shown = statement_of(request.plant, period)
     words = {"month": month, "shown": shown, "section": "drawing"}
     return render(request, "look/drawing.html", words)
@@ -92,17 +92,17 @@ def drawing(request: HttpRequest, period: str) -> HttpResponse:
 
 def stream(request: HttpRequest, period: str, name: str) -> HttpResponse:
     """Show what is booked of a stream or a tank in a month, day by day, and its other months."""
-    month = month_of(request, period)
-    contents = contents_of(request.plant)
+    month = month_in_address(request, period)
+    contents = book_contents(request.plant)
     place = place_of(contents, month, name)
-    days = days_of(request.plant, month, place)
+    days = month_days(request.plant, month, place)
     words = {
         "month": month,
         "place": place,
         "is_tank": not isinstance(place, BookStream),
         "days": days,
         "tops": _bars([each.fact.values[0] if each.fact else None for each in days]),
-        "years": months_of(request.plant, place.name),
+        "years": stream_months(request.plant, place.name),
         "version": contents.version,
         "section": "statement",
         "missing": sum(each.is_missing for each in days),
@@ -122,7 +122,7 @@ def _bars(values: list[int | None]) -> list[tuple[float, float, int]]:
 
 def fact(request: HttpRequest, year: str, identity: str) -> HttpResponse:
     """Show a fact: what it says, what it was, the row and the lines of the journal that have it."""
-    version = contents_of(request.plant).version
+    version = book_contents(request.plant).version
     found = plain_book(request.plant).fact(year, identity)
     here = found.shown.fact
     words = {
@@ -138,7 +138,7 @@ def fact(request: HttpRequest, year: str, identity: str) -> HttpResponse:
 
 def journal(request: HttpRequest) -> HttpResponse:
     """Show the journal, the latest lines first."""
-    lines = contents_of(request.plant).lines
+    lines = book_contents(request.plant).lines
     number = request.GET.get("page", "1")
     at = int(number) if number.isascii() and number.isdigit() and len(number) < 6 else 1
     shown = list(reversed(lines))[(at - 1) * LINES : at * LINES]
@@ -152,7 +152,7 @@ def journal(request: HttpRequest) -> HttpResponse:
 
 def export(request: HttpRequest, period: str, kind: str) -> HttpResponse:
     """Give a month as a file: its workbook, its page, its PDF, its report, its session."""
-    month = month_of(request, period)
+    month = month_in_address(request, period)
     if month.report is ReportState.MISSING:
         raise Fault(_("there is no report yet"), remedy=_("make one first"))
     make = FILES.get(kind)
@@ -177,7 +177,7 @@ def _workbook(plant: Plant, period: str) -> File:
 
     prepared, source = prepared_of(plant, period)
     accounts = list(booked(plant.folder, source.rows).accounts.values())
-    origin = Origin(plant.name, "", None, str(contents_of(plant).version))
+    origin = Origin(plant.name, "", None, str(book_contents(plant).version))
     with tempfile.TemporaryDirectory(prefix="plantbal-export-") as folder:
         place = Path(folder) / "month.xlsx"
         write_workbook(place, prepared, origin, accounts)

@@ -20,7 +20,7 @@ from plantbal.book.results import ReportState
 from plantbal.faults import Fault
 from plantbal.newfile import write_new
 from plantbal_office.plants.models import Plant
-from plantbal_office.shelf import contents_of, plain_book
+from plantbal_office.shelf import book_contents, plain_book
 
 
 def bundles_of(plant: Plant) -> Path:
@@ -69,7 +69,7 @@ def _locked(folder: Path) -> Iterator[None]:
 
 def _before(plant: Plant, period: str) -> Path | None:
     """Return the bundle that was handed out of the latest month before one; None without one."""
-    names = [each.name for each in contents_of(plant).months]
+    names = [each.name for each in book_contents(plant).months]
     for name in reversed(names[: names.index(period)]):
         place = bundles_of(plant) / f"{name}.zip"
         if place.exists():
@@ -79,7 +79,7 @@ def _before(plant: Plant, period: str) -> Path | None:
 
 def _is_closed(plant: Plant, period: str) -> bool:
     """Say whether a month is closed, with nothing booked in it since its report."""
-    month = contents_of(plant).month(period)
+    month = book_contents(plant).month(period)
     return month is not None and month.closed and month.report is not ReportState.OLDER
 
 

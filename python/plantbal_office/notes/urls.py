@@ -6,7 +6,7 @@ from plantbal_office.notes import views
 
 app_name = "notes"
 urlpatterns = [
-    path("add", views.add, name="add"),
+    path("add", views.add_note, name="add"),
     path("file/<uuid:note>", views.file, name="file"),
     path("bundle/<str:period>", views.bundle, name="bundle"),
 ]

@@ -18,10 +18,10 @@ from django.utils.translation import gettext as _
 from plantbal.book.writing import sync
 from plantbal.faults import Fault, InputFault, Place
 from plantbal_office.deeds.once import once
-from plantbal_office.look.views import month_of
+from plantbal_office.look.views import month_in_address
 from plantbal_office.notes.bundle import bundle_of
 from plantbal_office.notes.models import Note
-from plantbal_office.shelf import contents_of
+from plantbal_office.shelf import book_contents
 
 # What may be put beside a figure, by how the name ends; a browser shows none of it as a page.
 KINDS = {
@@ -41,7 +41,7 @@ def folder() -> Path:
     return Path(settings.MEDIA_ROOT) / "notes"
 
 
-def add(request: HttpRequest) -> HttpResponse:
+def add_note(request: HttpRequest) -> HttpResponse:
     """Take a comment, perhaps with a file."""
     about = request.POST.get("about", "")
     then = request.POST.get("then", "/")
@@ -53,15 +53,18 @@ def add(request: HttpRequest) -> HttpResponse:
         text = request.POST.get("text", "").strip()
         file: UploadedFile | None = request.FILES.get("file")
         if len(text) > MOST_TEXT:
-            what = _("this comment has more than {most:,} letters").format(most=MOST_TEXT)
+            what = _("this comment has more than {most:,} characters").format(most=MOST_TEXT)
             raise Fault(what, remedy=_("put it into a file"))
         if not text and file is None:
-            raise Fault(_("there is neither a text nor a file"), remedy=_("write something"))
+            raise Fault(
+                _("there is neither a comment nor a file"),
+                remedy=_("write a comment, or choose a file"),
+            )
         note = Note(plant=request.plant, person=request.user, about=about, period=period, text=text)
         if file is not None:
             _attach(note, file)
         note.save(force_insert=True)
-        messages.success(request, _("The comment is kept."))
+        messages.success(request, _("The comment is saved."))
         return then + "#notes"
 
     return once(request, act)
@@ -76,7 +79,7 @@ def checked_about(request: HttpRequest, about: str) -> str:
         If there is no such thing.
     """
     word, _colon, rest = about.partition(":")
-    contents = contents_of(request.plant)
+    contents = book_contents(request.plant)
     if len(about) <= 120 and word == "month" and contents.month(rest) is not None:
         return rest
     if len(about) <= 120 and word == "stream":
@@ -105,8 +108,8 @@ def _attach(note: Note, file: UploadedFile) -> None:
     ending = Path(name).suffix.lower()
     place = Place(file=name[:40])
     if len(name) > LONGEST_NAME or not name.isprintable() or ending not in KINDS:
-        what = _("a file of this kind or name isn't kept")
-        remedy = _("give one of {kinds}").format(kinds=", ".join(KINDS))
+        what = _("a file of this kind or name can't be kept")
+        remedy = _("use one of {kinds}").format(kinds=", ".join(KINDS))
         raise InputFault(what, place=place, remedy=remedy)
     if file.size > settings.PLANTBAL_ATTACHED:
         what = _("it has more than {most:,} bytes").format(most=settings.PLANTBAL_ATTACHED)
@@ -132,7 +135,7 @@ def file(request: HttpRequest, note: str) -> HttpResponse:
     data = (folder() / str(found.pk)).read_bytes()
     if hashlib.sha256(data).hexdigest() != found.sha256:
         raise Fault(
-            _("this file was changed since it was kept"), remedy=_("ask whoever runs the desk")
+            _("this file has changed since it was saved"), remedy=_("ask whoever runs the desk")
         )
     answer = HttpResponse(data, content_type=found.kind)
     answer["Content-Security-Policy"] = "default-src 'none'; sandbox"
@@ -144,7 +147,7 @@ def file(request: HttpRequest, note: str) -> HttpResponse:
 
 def bundle(request: HttpRequest, period: str) -> HttpResponse:
     """Give the bundle of a month, with its comments and files beside it."""
-    month_of(request, period)
+    month_in_address(request, period)
     notes = Note.objects.filter(plant=request.plant, period__in=[period, ""])
     with tempfile.TemporaryDirectory(prefix="plantbal-bundle-") as made:
         data = bundle_of(request.plant, period, Path(made), notes_of(notes), folder())

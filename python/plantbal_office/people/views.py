@@ -59,7 +59,7 @@ def signin(request: HttpRequest) -> HttpResponse:
         if person is not None:
             login(request, person)
             return redirect(then)
-        form.add_error(None, _("This name and this password don't belong together."))
+        form.add_error(None, _("The name or the password is wrong."))
     return render(request, "people/signin.html", {"form": form, "next": urlencode({"next": then})})
 
 

@@ -22,17 +22,18 @@ from plantbal_office.deeds.once import once
 from plantbal_office.enter.drops import (
     LOCALES,
     forget,
-    keep,
-    one_of,
+    keep_drop,
+    one_workbook,
     options_of,
     path_of,
     without_folders,
 )
-from plantbal_office.enter.mapped import accept, accepted, unmap, wants_mapping
-from plantbal_office.enter.mapping import MappingPage, asked_of
+from plantbal_office.enter.mapped import accepted, keep_mapping, unmap, wants_mapping
+from plantbal_office.enter.mapping import MappingPage, mapping_page_of
 from plantbal_office.enter.models import Drop
 from plantbal_office.plants.models import Plant
 from plantbal_office.plants.views import YEAR, OpenBook, register
+from plantbal_office.sentences import fault_said
 from plantbal_office.shelf import who_of
 
 
@@ -41,18 +42,18 @@ class BeginBook(OpenBook):
 
     year = forms.RegexField(YEAR, label=gettext_lazy("First year"), max_length=32)
     locale = forms.ChoiceField(
-        label=gettext_lazy("Numbers and days"), choices=LOCALES, required=False
+        label=gettext_lazy("Numbers and dates"), choices=LOCALES, required=False
     )
 
 
-def begin(request: HttpRequest) -> HttpResponse:
+def begin_page(request: HttpRequest) -> HttpResponse:
     """Begin a book with the workbook of a plant."""
     form = BeginBook(request.POST or None)
     if request.method == "POST" and form.is_valid():
 
         def act() -> str:
             words = form.cleaned_data
-            drop = keep(request, *one_of(request), words["locale"])
+            drop = keep_drop(request, *one_workbook(request), words["locale"])
             is_asked = False
             try:
                 is_asked = wants_mapping(drop, None, KnownPlant())
@@ -77,7 +78,7 @@ def begin(request: HttpRequest) -> HttpResponse:
 
 def _say(form: forms.Form, fault: Fault) -> None:
     """Put what is wrong with a workbook over its form."""
-    form.add_error(None, without_folders(str(fault)))
+    form.add_error(None, without_folders(fault_said(fault)))
     for line in getattr(fault, "lines", ()):
         form.add_error(None, without_folders(line))
 
@@ -97,7 +98,7 @@ def _begun(
     return plant
 
 
-def mapping(request: HttpRequest, drop: str) -> HttpResponse:
+def plant_mapping_page(request: HttpRequest, drop: str) -> HttpResponse:
     """Show how the workbook of a new plant would be read, and begin its book so."""
     found = get_object_or_404(Drop, pk=drop, plant=None, person=request.user)
     words = request.POST if request.method == "POST" else request.GET
@@ -106,17 +107,15 @@ def mapping(request: HttpRequest, drop: str) -> HttpResponse:
     def take(asked: MappingPage) -> str:
         if not form.is_valid():
             raise Fault(_("the name, the folder or the year is missing"))
-        accept(found, asked.found.mapping)
+        keep_mapping(found, asked.found.mapping)
         reading = ReadingOptions(mapping=accepted(found))
         plant = _begun(request, found, form.cleaned_data, reading)
         unmap(found)
         found.plant, found.locale = plant, ""
         found.save()
-        messages.info(
-            request, _("Nothing is booked yet of what else the workbook has: look at it.")
-        )
+        messages.info(request, _("The rest of the workbook isn't booked yet: look at it."))
         return reverse("enter:seen", args=[plant.slug, found.pk])
 
-    asked = asked_of(request, found, None, KnownPlant())
+    asked = mapping_page_of(request, found, None, KnownPlant())
     asked.words |= {"begins": form, "title": _("Begin a book")}
     return asked.answer(request, take)

@@ -1,6 +1,6 @@
-"""How each month stands, as a word, and what it waits for, of whom.
+"""The state of each month, as a word, and what it waits for, by whom.
 
-A month is *lacking* if readings, dips or assays are missing, *open* if nothing but a report is,
+A month is *incomplete* if readings, dips or assays are missing, *open* if nothing but a report is,
 *rejected* if its report has something to look at, and *ready* if it has nothing; once closed it is
 *closed*, or *changed* since, if something was booked of it.
 """
@@ -22,7 +22,7 @@ from plantbal.gates import Gate, Stop
 from plantbal.report.output import Output, parse_report
 from plantbal_office.access import Role
 from plantbal_office.plants.models import Plant
-from plantbal_office.shelf import KEPT, contents_of, plain_book
+from plantbal_office.shelf import KEPT, book_contents, plain_book
 
 
 class Standing(Enum):
@@ -38,7 +38,7 @@ class Standing(Enum):
 
 WORDS = {
     Standing.OPEN: gettext_lazy("open"),
-    Standing.LACKING: gettext_lazy("lacking"),
+    Standing.LACKING: gettext_lazy("incomplete"),
     Standing.REJECTED: gettext_lazy("rejected"),
     Standing.READY: gettext_lazy("ready"),
     Standing.CLOSED: gettext_lazy("closed"),
@@ -111,7 +111,7 @@ def stands_of(plant: Plant) -> list[Stand]:
     status = status_of(plant)
     missing = {each.name: each.missing for year in status.years for each in year.periods}
     return [
-        _stand(plant, month, missing.get(month.name, ())) for month in contents_of(plant).months
+        _stand(plant, month, missing.get(month.name, ())) for month in book_contents(plant).months
     ]
 
 
@@ -127,7 +127,7 @@ def _stand(plant: Plant, month: BookMonth, missing: Sequence[str]) -> Stand:
     if month.closed:
         if month.report is ReportState.CURRENT:
             return Stand(month, Standing.CLOSED, "", ())
-        waits = _("a new report, and then what has changed is to be handed over")
+        waits = _("a new report, and a handover of what has changed")
         return Stand(month, Standing.CHANGED, waits, (Role.ENGINEER, Role.APPROVER))
     if month.report is not ReportState.CURRENT:
         if missing:
@@ -137,15 +137,15 @@ def _stand(plant: Plant, month: BookMonth, missing: Sequence[str]) -> Stand:
     more = tuple(missing), tuple(stops), output
     gates = {stop.gate for stop in stops}
     if gates & _REJECTS:
-        waits = _("what its report rejects is to be found and corrected")
+        waits = _("a correction of what its report rejects")
         return Stand(month, Standing.REJECTED, waits, (Role.ENGINEER,), *more)
     if missing:
         return Stand(month, Standing.LACKING, _lacks(missing), (Role.CLERK,), *more)
     if stops:
         count = len(gates)
         waits = ngettext(
-            "an answer to %(count)d matter before the close",
-            "answers to %(count)d matters before the close",
+            "a review of %(count)d matter before the close",
+            "a review of %(count)d matters before the close",
             count,
         ) % {"count": count}
         return Stand(month, Standing.READY, waits, (Role.ENGINEER, Role.APPROVER), *more)
@@ -154,9 +154,7 @@ def _stand(plant: Plant, month: BookMonth, missing: Sequence[str]) -> Stand:
 
 def _lacks(missing: Sequence[str]) -> str:
     """Return how much is missing."""
-    words = ngettext(
-        "%(count)d thing that is missing", "%(count)d things that are missing", len(missing)
-    )
+    words = ngettext("%(count)d missing item", "%(count)d missing items", len(missing))
     return words % {"count": len(missing)}
 
 
@@ -166,7 +164,7 @@ def looked_at(plant: Plant, period: str) -> tuple[list[Stop], Output]:
     def make() -> tuple[list[Stop], Output]:
         kept = plain_book(plant).kept(period)
         output = parse_report(kept.text, f"the report of {period}")
-        quiets = contents_of(plant).quiets
+        quiets = book_contents(plant).quiets
         return stops_in(kept.rows, period, output, quiets), output
 
     return KEPT.of(Path(plant.folder), "looked", (period,), make)

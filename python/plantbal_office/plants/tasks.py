@@ -17,7 +17,7 @@ from plantbal_office.access import Role
 from plantbal_office.deeds.once import once
 from plantbal_office.people.models import Membership, Person
 from plantbal_office.plants.models import Plant, Task
-from plantbal_office.shelf import contents_of
+from plantbal_office.shelf import book_contents
 
 MOST = 200  # tasks of a plant that aren't done
 
@@ -30,7 +30,7 @@ class TaskForm(forms.Form):
     due = forms.DateField(required=False)
 
 
-def members_of(plant: Plant) -> list[Person]:
+def people_of(plant: Plant) -> list[Person]:
     """Return the people with a role in a plant."""
     return list(Person.objects.filter(memberships__plant=plant).distinct().order_by("username"))
 
@@ -58,15 +58,15 @@ def give(request: HttpRequest) -> HttpResponse:
     form = TaskForm(request.POST)
 
     def act() -> str:
-        month = contents_of(request.plant).month(request.POST.get("month", ""))
+        month = book_contents(request.plant).month(request.POST.get("month", ""))
         if month is None:
-            raise Fault(_("a task is of a month of the book"), remedy=_("choose a month"))
+            raise Fault(_("a task belongs to a month of the book"), remedy=_("choose a month"))
         if not form.is_valid():
-            raise Fault(_("a task says what there is to do, in at most 200 characters"))
+            raise Fault(_("a task needs a description of at most 200 characters"))
         if Task.objects.filter(plant=request.plant, done=None).count() >= MOST:
-            raise Fault(_("there are too many tasks"), remedy=_("say which are done"))
+            raise Fault(_("there are too many tasks"), remedy=_("mark those that are done"))
         doer = form.cleaned_data["doer"]
-        people = {person.pk: person for person in members_of(request.plant)}
+        people = {person.pk: person for person in people_of(request.plant)}
         Task.objects.create(
             plant=request.plant,
             period=month.name,

@@ -8,12 +8,12 @@ app_name = "plants"
 urlpatterns = [
     path("", views.plants, name="list"),
     path("open", views.open_book, name="open"),
-    path("begin", beginning.begin, name="begin"),
-    path("begin/<uuid:drop>", beginning.mapping, name="mapping"),
+    path("begin", beginning.begin_page, name="begin"),
+    path("begin/<uuid:drop>", beginning.plant_mapping_page, name="mapping"),
     path("p/<slug:plant>/", views.months, name="months"),
-    path("p/<slug:plant>/verify", views.verify, name="verify"),
+    path("p/<slug:plant>/verify", views.verify_page, name="verify"),
     path("p/<slug:plant>/next", views.next_year, name="next"),
     path("p/<slug:plant>/task", tasks.give, name="task"),
     path("p/<slug:plant>/done/<int:task>", tasks.done, name="done"),
-    path("p/<slug:plant>/retire", views.retire, name="retire"),
+    path("p/<slug:plant>/retire", views.retire_page, name="retire"),
 ]

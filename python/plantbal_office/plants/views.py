@@ -1,4 +1,4 @@
-"""Plants and their months: which there are, how each stands, a new book, the next year."""
+"""Plants and their months: which there are, the state of each, a new book, the next year."""
 
 from __future__ import annotations
 
@@ -25,8 +25,9 @@ from plantbal_office.enter.drops import LOCALES, dropped, options_of, without_fo
 from plantbal_office.people.models import Membership
 from plantbal_office.plants.models import Plant, Task
 from plantbal_office.plants.standing import Stand, Standing, stands_of, status_of
-from plantbal_office.plants.tasks import members_of, names_by_role, open_tasks
-from plantbal_office.shelf import book_of, contents_of, plain_book
+from plantbal_office.plants.tasks import names_by_role, open_tasks, people_of
+from plantbal_office.sentences import fault_said
+from plantbal_office.shelf import book_contents, book_of, plain_book
 
 # What one person's desk lets its person be in each plant.
 ALL = (Role.CLERK, Role.ENGINEER, Role.APPROVER)
@@ -48,7 +49,7 @@ class NextYear(forms.Form):
     year = forms.RegexField(YEAR, label=gettext_lazy("Year"))
     first = forms.DateField(label=gettext_lazy("First day"), required=False)
     locale = forms.ChoiceField(
-        label=gettext_lazy("Numbers and days"), choices=LOCALES, required=False
+        label=gettext_lazy("Numbers and dates"), choices=LOCALES, required=False
     )
 
 
@@ -104,8 +105,8 @@ def register(request: HttpRequest, name: str, folder: Path) -> Plant:
     taken = Plant.objects.filter(folder=place).first()
     if taken is not None:
         raise Fault(
-            _("{folder} is the book of {name} already").format(folder=place, name=taken.name),
-            remedy=_("open it at the plants"),
+            _("{folder} is already the book of {name}").format(folder=place, name=taken.name),
+            remedy=_("open it from the list of plants"),
         )
     plant = Plant.objects.create(slug=free_slug(name), name=name, folder=place)
     if settings.PLANTBAL_KEY:
@@ -138,14 +139,14 @@ def open_book(request: HttpRequest) -> HttpResponse:
         try:
             return once(request, act)
         except Fault as fault:
-            form.add_error("folder", str(fault))
+            form.add_error("folder", fault_said(fault))
     words = {"form": form, "title": _("Open a book")}
     return render(request, "plants/open.html", words, status=400 if form.errors else 200)
 
 
 def months(request: HttpRequest) -> HttpResponse:
     """Show the months of a plant, and what each waits for, and of whom."""
-    contents = contents_of(request.plant)
+    contents = book_contents(request.plant)
     stands = stands_of(request.plant)
     status = status_of(request.plant)
     waiting = _waiting(request.plant, stands, open_tasks([request.plant]))
@@ -154,7 +155,7 @@ def months(request: HttpRequest) -> HttpResponse:
     words = {
         "version": contents.version,
         "rows": rows,
-        "members": members_of(request.plant),
+        "members": people_of(request.plant),
         "status": status,
         "years": [(each, _used(each.facts)) for each in status.years],
         "windows": contents.windows,
@@ -192,13 +193,13 @@ def next_year(request: HttpRequest) -> HttpResponse:
         try:
             return once(request, act)
         except Fault as fault:
-            form.add_error(None, without_folders(str(fault)))
-    version: BookVersion = contents_of(request.plant).version
+            form.add_error(None, without_folders(fault_said(fault)))
+    version: BookVersion = book_contents(request.plant).version
     answer = {"form": form, "version": version, "title": _("Begin the next year")}
     return render(request, "plants/next.html", answer, status=400 if form.errors else 200)
 
 
-def retire(request: HttpRequest) -> HttpResponse:
+def retire_page(request: HttpRequest) -> HttpResponse:
     """End the service of a tank or a stream."""
 
     def act() -> str:
@@ -211,7 +212,7 @@ def retire(request: HttpRequest) -> HttpResponse:
     return once(request, act)
 
 
-def verify(request: HttpRequest) -> HttpResponse:
+def verify_page(request: HttpRequest) -> HttpResponse:
     """Test every file of the book against its journal, and show the head."""
     found = plain_book(request.plant).verify()
     return render(request, "plants/verify.html", {"found": found})

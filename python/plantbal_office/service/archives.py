@@ -69,7 +69,7 @@ class BackupManifest:
                 return manifest
         except (ValueError, TypeError, KeyError, AttributeError, RecursionError):
             pass
-        raise InputFault("this isn't what a backup has", place=Place(file=MANIFEST))
+        raise InputFault("this isn't the list of a backup's files", place=Place(file=MANIFEST))
 
 
 class Packing:
@@ -111,8 +111,8 @@ def members(file: IO[bytes]) -> Iterator[tuple[str, bytes]]:
                 parts = member.name.split("/")
                 is_safe = ".." not in parts and "" not in parts and "." not in parts
                 if not (member.isreg() and is_safe and _NAME.fullmatch(member.name)):
-                    what = f"{member.name[:80]!r} isn't a file of a backup"
-                    raise InputFault(what, remedy="plantbal-office backup writes no such file")
+                    what = f"{member.name[:80]!r} doesn't belong in a backup"
+                    raise InputFault(what, remedy="give a file that plantbal-office backup wrote")
                 if member.size > INPUT_BYTES:
                     raise InputFault(f"{member.name} has {member.size:,} bytes")
                 inner = tar.extractfile(member)
@@ -153,9 +153,9 @@ def _words(recipients: Sequence[str]) -> list[str]:
         found = _tool("age")
         return [found, "--encrypt", *(word for each in recipients for word in ("-r", each))]
     if any(of_age):
-        raise Fault("recipients of age and keys of gpg together", remedy="use one of the two alone")
+        raise Fault("age recipients and gpg keys together", remedy="use either one or the other")
     if any(each.startswith("-") for each in recipients):
-        raise Fault("a recipient begins with -", remedy="give the address or number of a key")
+        raise Fault("a recipient begins with -", remedy="give the address or the number of a key")
     words = [_tool("gpg", "gnupg"), "--batch", "--trust-model", "always", "--encrypt"]
     return [*words, *(word for each in recipients for word in ("-r", each))]
 
@@ -182,7 +182,7 @@ def opened(path: Path, identity: str | None) -> Iterator[IO[bytes]]:
         raise InputFault(f"{error.strerror}", place=Place(file=str(path))) from error
     if begin.startswith(_MAGIC_AGE):
         if identity is None:
-            raise Fault(f"{path} is encrypted by age", remedy="use --identity FILE, its key")
+            raise Fault(f"{path} is encrypted with age", remedy="use --identity FILE, with the key")
         words = [_tool("age"), "--decrypt", "-i", identity, str(path)]
     elif begin[:1] and begin[0] in _MAGIC_PGP:
         words = [_tool("gpg", "gnupg"), "--batch", "--decrypt", str(path)]

@@ -16,12 +16,12 @@ from plantbal.faults import Fault
 from plantbal.program import find_program
 from plantbal_office.plants.models import Plant
 from plantbal_office.service.config import Config
-from plantbal_office.service.restore import RestoreFinding, verified
+from plantbal_office.service.restore import restored_book, RestoreFinding
 
 _ROOM = 1 << 30  # bytes that have to be free
 
 
-def checked(config: Config) -> Iterator[RestoreFinding]:
+def restore_findings(config: Config) -> Iterator[RestoreFinding]:
     """Give what is found of each part."""
     yield from _rights(config)
     try:
@@ -43,7 +43,7 @@ def checked(config: Config) -> Iterator[RestoreFinding]:
         yield RestoreFinding(kind, f"{folder} has {free >> 20:,} MiB of free space")
     for plant in Plant.objects.all():
         try:
-            yield from verified(Path(plant.folder))
+            yield from restored_book(Path(plant.folder))
         except Fault as fault:
             yield RestoreFinding(SentenceKind.WRONG, f"{plant.slug}: {fault}")
 
@@ -54,7 +54,9 @@ def _rights(config: Config) -> Iterator[RestoreFinding]:
         if not path.exists():
             yield RestoreFinding(SentenceKind.WRONG, f"there is no {path}")
         elif path.stat().st_mode & 0o007:
-            yield RestoreFinding(SentenceKind.WRONG, f"others may read {path}: chmod o= {path}")
+            yield RestoreFinding(
+                SentenceKind.WRONG, f"other users may read {path}: chmod o= {path}"
+            )
     if not config.recipients:
         yield RestoreFinding(
             SentenceKind.NOTE, "backups aren't encrypted: [backup] recipients says for whom"
@@ -66,8 +68,8 @@ def _database() -> Iterator[RestoreFinding]:
     executor = MigrationExecutor(connection)
     lacking = executor.migration_plan(executor.loader.graph.leaf_nodes())
     if lacking:
-        what = f"the database is missing {len(lacking)} steps of this version"
-        yield RestoreFinding(SentenceKind.WRONG, f"{what}: plantbal-office init does them")
+        what = f"the database needs {len(lacking)} migrations to this version"
+        yield RestoreFinding(SentenceKind.WRONG, f"{what}: run plantbal-office init")
     else:
         yield RestoreFinding(SentenceKind.GOOD, "the database is that of this version")
     try:

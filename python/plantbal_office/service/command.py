@@ -1,4 +1,4 @@
-"""The command plantbal-office: sets the service up, keeps its people, and backs it up."""
+"""The command plantbal-office: sets up the service, manages its accounts, and backs it up."""
 
 from __future__ import annotations
 
@@ -70,7 +70,7 @@ def _user(options: argparse.Namespace) -> int:
 
 
 def _role(options: argparse.Namespace) -> int:
-    """Give a person a role in a plant, or take it."""
+    """Give a person a role in a plant, or take it away."""
     ready()
     from plantbal_office.people.models import Membership, Person
     from plantbal_office.plants.models import Plant
@@ -82,7 +82,7 @@ def _role(options: argparse.Namespace) -> int:
         there = Person.objects.values_list("username", flat=True)
         if person is not None:
             there = Plant.objects.values_list("slug", flat=True)
-        raise Fault(f"there is no {what}", remedy=f"these are there: {', '.join(there)}")
+        raise Fault(f"there is no {what}", remedy=f"use one of {', '.join(there)}")
     words = {"person": person, "plant": plant, "role": options.role}
     if options.off:
         Membership.objects.filter(**words).delete()
@@ -101,7 +101,9 @@ def _backup(options: argparse.Namespace) -> int:
     print(f"{found.files} files of {found.books} books and the database are in {options.file}")
     print(f"SHA-256 {found.digest}")
     if not found.is_encrypted:
-        print("it isn't encrypted: --to RECIPIENT, or [backup] in the configuration")
+        print(
+            "it isn't encrypted: use --to RECIPIENT, or name recipients in [backup] of the configuration"
+        )
     return 0
 
 
@@ -119,10 +121,10 @@ def _restore(options: argparse.Namespace) -> int:
 def _check(options: argparse.Namespace) -> int:
     del options
     ready()
-    from plantbal_office.service.checking import checked
+    from plantbal_office.service.checking import restore_findings
 
     wrong = 0
-    for line in checked(read_config()):
+    for line in restore_findings(read_config()):
         print(f"{line.kind}: {line.said}", flush=True)
         wrong += line.is_wrong
     return ExitStatus.LOOK if wrong else ExitStatus.GOOD
@@ -147,33 +149,43 @@ def parser() -> argparse.ArgumentParser:
         found.set_defaults(run=run)
         return found
 
-    init = add("init", _init, "set the service up: configuration, database, first administrator")
-    init.add_argument("--host", metavar="NAME", required=True, help="its name for browsers")
+    init = add("init", _init, "set up the service: configuration, database, first administrator")
+    init.add_argument(
+        "--host", metavar="NAME", required=True, help="the host name that browsers use"
+    )
     init.add_argument("--admin", metavar="NAME", required=True, help="the first administrator")
     init.add_argument(
-        "--user", metavar="NAME", default="plantbal-office", help="whose service it is"
+        "--user", metavar="NAME", default="plantbal-office", help="the user that runs the service"
     )
-    user = add("user", _user, "make an account or change one; a new password is printed once")
+    user = add("user", _user, "make or change an account; a new password is printed once")
     user.add_argument("name", metavar="NAME")
     user.add_argument("--name", metavar="TEXT", dest="full", default="", help="the person's name")
-    user.add_argument("--administrator", action="store_true", help="keeps people and plants")
-    user.add_argument("--password", action="store_true", help="give another password")
-    user.add_argument("--elsewhere", action="store_true", help="signs in by LDAP or OIDC alone")
-    user.add_argument("--forget-second", action="store_true", help="when a phone is lost")
-    user.add_argument("--off", action="store_true", help="can no longer sign in")
-    role = add("role", _role, "give a person a role in a plant, or take it")
+    user.add_argument(
+        "--administrator", action="store_true", help="let the person manage people and plants"
+    )
+    user.add_argument("--password", action="store_true", help="set a new password")
+    user.add_argument(
+        "--elsewhere", action="store_true", help="let the person sign in only by LDAP or OIDC"
+    )
+    user.add_argument("--forget-second", action="store_true", help="remove the second factor")
+    user.add_argument("--off", action="store_true", help="disable the account")
+    role = add("role", _role, "give a person a role in a plant, or take it away")
     role.add_argument("name", metavar="NAME")
     role.add_argument("plant", metavar="PLANT")
     role.add_argument("role", metavar="ROLE", choices=[each.value for each in IN_A_PLANT])
-    role.add_argument("--off", action="store_true", help="take the role")
-    backup = add("backup", _backup, "write books and database into one file")
+    role.add_argument("--off", action="store_true", help="take the role away")
+    backup = add("backup", _backup, "write the books and the database into one file")
     backup.add_argument("file", metavar="FILE")
-    to = "for whom it is encrypted: a recipient of age (age1..), or a key of gpg"
+    to = "encrypt it for an age recipient (age1..) or a gpg key"
     backup.add_argument("--to", metavar="RECIPIENT", action="append", default=[], help=to)
-    back = add("restore", _restore, "put a backup into an empty service, and verify all of it")
+    back = add("restore", _restore, "restore a backup into an empty service, and verify everything")
     back.add_argument("file", metavar="FILE")
-    back.add_argument("--identity", metavar="FILE", help="the key of age that opens it")
-    add("check", _check, "check that all is in order: database, books, rights, free space")
+    back.add_argument("--identity", metavar="FILE", help="the age key that decrypts it")
+    add(
+        "check",
+        _check,
+        "check that everything is in order: database, books, permissions, free space",
+    )
     return made
 
 

@@ -136,7 +136,7 @@ def _config(path: Path, values: dict[str, Any]) -> Config:
         inner = values.get(table, {}) if table else values
         for name in inner:
             if name not in names:
-                raise ValueError(f"[{table}] has no {name}: it may have {', '.join(names)}")
+                raise ValueError(f"[{table}] has no setting {name}: it may have {', '.join(names)}")
     for table, module, package in _NEEDS:
         if values.get(table) and importlib.util.find_spec(module) is None:
             raise ToolMissing(module, package)
@@ -183,5 +183,5 @@ def secret_of(path: str | Path) -> str:
     """
     source, data = read_bytes(path, RULES_BYTES)
     if Path(path).stat().st_mode & 0o007:
-        raise Fault(f"others may read {source}", text=source, remedy=f"chmod o= {source}")
+        raise Fault(f"other users may read {source}", text=source, remedy=f"chmod o= {source}")
     return decoded(source, data).strip()

@@ -19,7 +19,7 @@ _STEP = 30  # seconds
 _AROUND = 1  # steps before and after, for clocks that differ
 
 
-def is_wanted(person: Person, second: Second) -> bool:
+def wants_factor(person: Person, second: Second) -> bool:
     """Say whether a person has to have a second factor."""
     if second is Second.APPROVERS:
         approves = person.memberships.filter(role=Role.APPROVER.value).exists()
@@ -40,7 +40,7 @@ def secret_for(person: Person) -> str:
     return str(made.secret)
 
 
-def picture_of(person: Person, secret: str) -> str:
+def secret_picture(person: Person, secret: str) -> str:
     """Return the secret as a picture for a phone, as the address of an image."""
     address = pyotp.TOTP(secret).provisioning_uri(person.get_username(), issuer_name="plantbal")
     out = io.BytesIO()

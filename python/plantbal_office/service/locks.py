@@ -15,7 +15,7 @@ MOST_OF_BOTH, MOST_OF_NAME, MOST_OF_ADDRESS = 5, 20, 50
 _WRONG = (Event.Kind.FAILED, Event.Kind.SECOND_FAILED)
 
 
-def address_of(request: HttpRequest) -> str:
+def client_address(request: HttpRequest) -> str:
     """Return where a request comes from: the proxy in front says it, by X-Real-IP."""
     near = request.META.get("REMOTE_ADDR", "")
     said = request.META.get("HTTP_X_REAL_IP", "") if near in ("", "127.0.0.1", "::1") else ""
@@ -24,14 +24,16 @@ def address_of(request: HttpRequest) -> str:
 
 def note(request: HttpRequest, kind: Event.Kind, name: str, what: str = "") -> None:
     """Write something into the log."""
-    Event.objects.create(kind=kind, name=name[:150], address=address_of(request), what=what[:300])
+    Event.objects.create(
+        kind=kind, name=name[:150], address=client_address(request), what=what[:300]
+    )
 
 
 def is_locked(request: HttpRequest, name: str) -> bool:
     """Say whether a name has to wait, or whoever comes from an address."""
     since = timezone.now() - WINDOW
     wrong = Event.objects.filter(kind__in=_WRONG, when__gte=since)
-    address = address_of(request)
+    address = client_address(request)
     last = Event.objects.filter(kind=Event.Kind.SIGNED_IN, name=name, address=address).first()
     both = wrong.filter(name=name, address=address)
     if last is not None:

@@ -10,7 +10,7 @@ from django.urls import reverse
 from django.utils.translation import gettext as _
 
 from plantbal.faults import Fault
-from plantbal_office.middleware import said
+from plantbal_office.middleware import fault_page
 from plantbal_office.people.models import Person
 from plantbal_office.service import locks
 from plantbal_office.service.models import Event
@@ -52,7 +52,11 @@ def leave(request: HttpRequest) -> HttpResponse:
     except failed as error:
         locks.note(request, Event.Kind.FAILED, "", f"oidc: {type(error).__name__}")
         what = _("the provider doesn't answer")
-        return said(request, Fault(what, remedy=_("try again later, or sign in by name")), 503)
+        return fault_page(
+            request,
+            Fault(what, remedy=_("try again later, or sign in with a name and password")),
+            503,
+        )
 
 
 def back(request: HttpRequest) -> HttpResponse:
@@ -67,10 +71,10 @@ def back(request: HttpRequest) -> HttpResponse:
     if not name:
         locks.note(request, Event.Kind.FAILED, "", f"oidc: {why or 'no name'}")
         what = _("the provider didn't say who you are")
-        return said(request, Fault(what, remedy=_("begin at the sign-in again")), 403)
+        return fault_page(request, Fault(what, remedy=_("start the sign-in again")), 403)
     person = Person.objects.filter(username=name, is_active=True).first()
     if person is None:
         locks.note(request, Event.Kind.FAILED, name, "oidc: no account")
         what = _("there is no account for you here")
-        return said(request, Fault(what, remedy=_("ask your administrator for it")), 403)
+        return fault_page(request, Fault(what, remedy=_("ask your administrator for it")), 403)
     return entered(request, person, "/")

@@ -46,7 +46,7 @@ def put_in_front(host: str, etc: Path = ETC, site: Path = SITE) -> Iterator[str]
     certificate, key = own / "tls.pem", own / "tls.key"
     if not certificate.exists():
         _certify(host, certificate, key)
-        yield f"{certificate} is a certificate that no browser knows: put yours in its place"
+        yield f"{certificate} is a self-signed certificate, which browsers don't trust: replace it by yours"
     text = site.read_text("utf-8")
     for old, new in ((_NAME, host), (_CERTIFICATE, str(certificate)), (_KEY, str(key))):
         text = text.replace(old, new)

@@ -1,6 +1,6 @@
-"""Puts a backup into an empty service, and verifies it: digests, chain, approvals, reports.
+"""Restores a backup into an empty service, and verifies it: digests, chain, approvals, reports.
 
-Nothing is written over: the database has to have no plant, and no folder of a book may be there.
+Nothing is overwritten: the database must have no plant, and no folder of a book may exist.
 """
 
 from __future__ import annotations
@@ -78,7 +78,7 @@ def restore(config: Config, path: Path, identity: str | None) -> Iterator[Restor
         room = Path(name)
         manifest = _unpacked(path, identity, room)
         yield RestoreFinding(
-            SentenceKind.GOOD, f"the digests of its {len(manifest.files)} files hold"
+            SentenceKind.GOOD, f"the digests of its {len(manifest.files)} files are right"
         )
         folders = {book.number: _place(config, room, book) for book in manifest.books}
         _put_database(room / DATABASE)
@@ -88,7 +88,7 @@ def restore(config: Config, path: Path, identity: str | None) -> Iterator[Restor
         os.sync()  # before anybody throws the backup away
         yield RestoreFinding(SentenceKind.GOOD, f"the database of {manifest.made} is restored")
     for book in manifest.books:
-        yield from verified(folders[book.number], book.head)
+        yield from restored_book(folders[book.number], book.head)
 
 
 def _check_empty(config: Config) -> None:
@@ -100,7 +100,7 @@ def _check_empty(config: Config) -> None:
         If it is one.
     """
     if "plants_plant" in connection.introspection.table_names() and Plant.objects.exists():
-        raise Fault("there are plants here", remedy="restore into an empty service")
+        raise Fault("this service already has plants", remedy="restore into an empty service")
     if config.books.is_dir() and any(config.books.iterdir()):
         raise Fault(f"{config.books} isn't empty", remedy="restore into an empty service")
 
@@ -166,7 +166,7 @@ def _put_files(room: Path) -> None:
 # ---- verifying
 
 
-def verified(folder: Path, head: str = "") -> Iterator[RestoreFinding]:
+def restored_book(folder: Path, head: str = "") -> Iterator[RestoreFinding]:
     """Give what a look at a book finds: its chain, its approvals, and each report made again."""
     found = Book(folder).verify(heads=[head] if head else [])
     for line in found.wrong:
@@ -198,11 +198,9 @@ def _reports(store: Store) -> Iterator[RestoreFinding]:
             written = call(words, asked.encode("ascii"), program=settings.PLANTBAL_PROGRAM)[1]
             count += 1
             if _rows(written.decode("ascii")) != _rows(text):
-                what = f"the program writes another report of {period} than is kept"
+                what = f"the program writes a report of {period} that differs from the kept one"
                 yield RestoreFinding(SentenceKind.WRONG, f"{store.folder}: {what}")
-    yield RestoreFinding(
-        SentenceKind.GOOD, f"{store.folder}: the program has written {count} reports again"
-    )
+    yield RestoreFinding(SentenceKind.GOOD, f"{store.folder}: reports calculated anew: {count}")
 
 
 def _rows(report: str) -> list[str]:

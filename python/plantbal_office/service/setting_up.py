@@ -18,7 +18,7 @@ from plantbal.files import write_text
 from plantbal_office.service.config import USUAL, read_config
 from plantbal_office.service.proxy import put_in_front
 
-_CONFIG = """# plantbal-office: docs/OFFICE.md has all that this file may have
+_CONFIG = """# plantbal-office: docs/OFFICE.md describes every setting
 hosts = ["{host}"]
 books = "{books}"
 state = "{state}"
@@ -72,7 +72,7 @@ def set_up(config: Path, host: str, admin: str, user: str) -> Iterator[str]:
 
     ready()
     yield from _filled(admin)
-    yield f"systemctl enable --now plantbal-office.socket turns it on, behind https://{host}"
+    yield f"start it with systemctl enable --now plantbal-office.socket; it is then at https://{host}"
 
 
 def _own(paths: list[Path], user: str) -> None:
@@ -84,7 +84,9 @@ def _own(paths: list[Path], user: str) -> None:
                 shutil.chown(path, user if path.is_dir() else "root", user)
             except LookupError as error:
                 what = f"there is no user {user}"
-                raise Fault(what, remedy="the package plantbal-office makes it") from error
+                raise Fault(
+                    what, remedy="install the package plantbal-office, which makes this user"
+                ) from error
 
 
 def _make_database(name: str, user: str) -> None:

@@ -7,8 +7,8 @@ from plantbal_office.service import oidc, views
 
 own = (
     [
-        path("sign-in", views.signin, name="signin"),
-        path("sign-out", views.signout, name="signout"),
+        path("sign-in", views.service_signin, name="signin"),
+        path("sign-out", views.service_signout, name="signout"),
         path("second", views.second, name="second"),
         path("enroll", views.enroll, name="enroll"),
         path("password", views.password, name="password"),

@@ -28,7 +28,7 @@ class CodeForm(forms.Form):
     """A code of a second factor."""
 
     code = forms.CharField(
-        label=gettext_lazy("Code of six digits"),
+        label=gettext_lazy("Six-digit code"),
         max_length=12,
         widget=forms.TextInput({"autocomplete": "one-time-code", "inputmode": "numeric"}),
     )
@@ -40,7 +40,7 @@ def safe_next(request: HttpRequest) -> str:
     return then if url_has_allowed_host_and_scheme(then, {request.get_host()}) else "/"
 
 
-def signin(request: HttpRequest) -> HttpResponse:
+def service_signin(request: HttpRequest) -> HttpResponse:
     """Sign in by name and password."""
     form = SignIn(request.POST or None)
     then = safe_next(request)
@@ -49,14 +49,14 @@ def signin(request: HttpRequest) -> HttpResponse:
         name = form.cleaned_data["name"]
         if locks.is_locked(request, name):
             locks.note(request, Event.Kind.LOCKED, name)
-            form.add_error(None, _("Too many wrong tries: wait a quarter of an hour."))
+            form.add_error(None, _("Too many failed attempts: wait a quarter of an hour."))
             status = 429
         else:
             person = authenticate(request, username=name, password=form.cleaned_data["password"])
             if person is not None:
                 return entered(request, person, then)
             locks.note(request, Event.Kind.FAILED, name)
-            form.add_error(None, _("This name and this password don't belong together."))
+            form.add_error(None, _("The name or the password is wrong."))
             status = 403
     words = {"form": form, "next": urlencode({"next": then}), "oidc": settings.PLANTBAL_OIDC}
     return render(request, "service/signin.html", words, status=status)
@@ -92,14 +92,14 @@ def second(request: HttpRequest) -> HttpResponse:
         name = person.get_username()
         if locks.is_locked(request, name):
             locks.note(request, Event.Kind.LOCKED, name)
-            form.add_error(None, _("Too many wrong tries: wait a quarter of an hour."))
+            form.add_error(None, _("Too many failed attempts: wait a quarter of an hour."))
             status = 429
         elif factors.takes(person, form.cleaned_data["code"]):
             del request.session[_PENDING]
             return _signed_in(request, person, pending[2], pending[3])
         else:
             locks.note(request, Event.Kind.SECOND_FAILED, name)
-            form.add_error(None, _("This code isn't right, or was used already."))
+            form.add_error(None, _("This code is wrong, or has already been used."))
             status = 403
     return render(request, "service/second.html", {"form": form}, status=status)
 
@@ -114,8 +114,12 @@ def enroll(request: HttpRequest) -> HttpResponse:
         if factors.takes(request.user, form.cleaned_data["code"], confirm=True):
             locks.note(request, Event.Kind.ENROLLED, request.user.get_username())
             return redirect("/")
-        form.add_error(None, _("This code isn't right, or was used already."))
-    words = {"form": form, "secret": secret, "picture": factors.picture_of(request.user, secret)}
+        form.add_error(None, _("This code is wrong, or has already been used."))
+    words = {
+        "form": form,
+        "secret": secret,
+        "picture": factors.secret_picture(request.user, secret),
+    }
     return render(request, "service/enroll.html", words)
 
 
@@ -130,7 +134,7 @@ def password(request: HttpRequest) -> HttpResponse:
     return render(request, "service/password.html", {"form": form})
 
 
-def signout(request: HttpRequest) -> HttpResponse:
+def service_signout(request: HttpRequest) -> HttpResponse:
     """Sign out."""
     locks.note(request, Event.Kind.SIGNED_OUT, request.user.get_username())
     logout(request)

@@ -48,7 +48,7 @@ class Watch:
         if not request.user.is_authenticated or request.resolver_match.view_name in _BEFORE:
             return None
         person = request.user
-        if factors.is_wanted(person, settings.PLANTBAL_SECOND) and not factors.has_one(person):
+        if factors.wants_factor(person, settings.PLANTBAL_SECOND) and not factors.has_one(person):
             return redirect("service:enroll")
         return None
 

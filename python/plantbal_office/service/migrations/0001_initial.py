@@ -6,7 +6,6 @@ import django.db.models.deletion
 
 
 class Migration(migrations.Migration):
-
     initial = True
 
     dependencies = [
@@ -15,27 +14,61 @@ class Migration(migrations.Migration):
 
     operations = [
         migrations.CreateModel(
-            name='Event',
+            name="Event",
             fields=[
-                ('id', models.BigAutoField(auto_created=True, primary_key=True, serialize=False, verbose_name='ID')),
-                ('when', models.DateTimeField(auto_now_add=True, db_index=True)),
-                ('kind', models.CharField(choices=[('signed-in', 'signed-in'), ('signed-out', 'signed-out'), ('failed', 'failed'), ('locked', 'locked'), ('second-failed', 'second-failed'), ('enrolled', 'enrolled'), ('password', 'password'), ('exported', 'exported'), ('refused', 'refused'), ('ended', 'ended')], max_length=16)),
-                ('name', models.CharField(db_index=True, max_length=150)),
-                ('address', models.CharField(db_index=True, max_length=64)),
-                ('what', models.CharField(blank=True, default='', max_length=300)),
+                (
+                    "id",
+                    models.BigAutoField(
+                        auto_created=True, primary_key=True, serialize=False, verbose_name="ID"
+                    ),
+                ),
+                ("when", models.DateTimeField(auto_now_add=True, db_index=True)),
+                (
+                    "kind",
+                    models.CharField(
+                        choices=[
+                            ("signed-in", "signed-in"),
+                            ("signed-out", "signed-out"),
+                            ("failed", "failed"),
+                            ("locked", "locked"),
+                            ("second-failed", "second-failed"),
+                            ("enrolled", "enrolled"),
+                            ("password", "password"),
+                            ("exported", "exported"),
+                            ("refused", "refused"),
+                            ("ended", "ended"),
+                        ],
+                        max_length=16,
+                    ),
+                ),
+                ("name", models.CharField(db_index=True, max_length=150)),
+                ("address", models.CharField(db_index=True, max_length=64)),
+                ("what", models.CharField(blank=True, default="", max_length=300)),
             ],
             options={
-                'ordering': ['-when', '-pk'],
+                "ordering": ["-when", "-pk"],
             },
         ),
         migrations.CreateModel(
-            name='Factor',
+            name="Factor",
             fields=[
-                ('id', models.BigAutoField(auto_created=True, primary_key=True, serialize=False, verbose_name='ID')),
-                ('secret', models.CharField(max_length=64)),
-                ('is_confirmed', models.BooleanField(default=False)),
-                ('used', models.BigIntegerField(default=0)),
-                ('person', models.OneToOneField(on_delete=django.db.models.deletion.CASCADE, related_name='factor', to=settings.AUTH_USER_MODEL)),
+                (
+                    "id",
+                    models.BigAutoField(
+                        auto_created=True, primary_key=True, serialize=False, verbose_name="ID"
+                    ),
+                ),
+                ("secret", models.CharField(max_length=64)),
+                ("is_confirmed", models.BooleanField(default=False)),
+                ("used", models.BigIntegerField(default=0)),
+                (
+                    "person",
+                    models.OneToOneField(
+                        on_delete=django.db.models.deletion.CASCADE,
+                        related_name="factor",
+                        to=settings.AUTH_USER_MODEL,
+                    ),
+                ),
             ],
         ),
     ]

@@ -8,7 +8,7 @@ import { Exact, filled } from './exact.js';
 /** What is wrong with a cell, as a sentence that says what to do. */
 export class CellFault extends Error {}
 
-const SPACED = /^[+-]?[0-9]{1,3}(?:[ \u00a0\u2009\u202f'\u2019][0-9]{3})+(?:[.,][0-9]*)?$/;
+const SPACED = /^[+-]?[1-9][0-9]{0,2}(?:[ \u00a0\u2009\u202f'\u2019][0-9]{3})+(?:[.,][0-9]*)?$/;
 const EXPONENT = /^(.*[0-9.,])[eE]([+-]?[0-9]{1,3})$/;
 const WITH_UNIT = /^(.*?[0-9.,])\s*([\p{L}\p{Nl}\p{No}][\p{L}\p{N}_³]*(?:\/[\p{L}\p{N}_³]+)?)$/u;
 const RATE = /^[[(]?([\p{L}\p{Nl}\p{No}][\p{L}\p{N}_³]*)\/(?:hr?|hours?|d|day|min|s)[\])]?$/iu;
@@ -46,7 +46,7 @@ export class CellReader {
     const key = mark + group;
     if (!this.forms.has(key)) {
       const thousands = group ? plainly(group) : '';
-      this.forms.set(key, new RegExp(`^[+-]?(?:[0-9]+|[0-9]{1,3}(?:${thousands}[0-9]{3})+)(?:${plainly(mark)}[0-9]+)?$`));
+      this.forms.set(key, new RegExp(`^[+-]?(?:[0-9]+|[1-9][0-9]{0,2}(?:${thousands}[0-9]{3})+)(?:${plainly(mark)}[0-9]+)?$`));
     }
     if (text.length > this.reading.digits || !this.forms.get(key).test(text)) return null;
     const [whole, part = ''] = (group ? text.replaceAll(group, '') : text).replace('+', '').split(mark);
@@ -65,17 +65,17 @@ export class CellReader {
     if (SPACED.test(plain)) plain = plain.replace(/[ \u00a0\u2009\u202f'\u2019]/g, '');
     const exponent = EXPONENT.exec(plain);
     if (exponent) plain = exponent[1];
-    const number = this.plain(plain, ...this.reading.marks);
-    if (number === null) throw this.notANumber(text, plain);
+    const [mark, group] = this.reading.marks, number = this.plain(plain, mark, exponent ? '' : group);
+    if (number === null) throw this.notANumber(text, plain, exponent);
     if (!exponent) return number;
     const power = BigInt(exponent[2].replace('+', ''));
     return number.times(power < 0n ? new Exact(1n, 10n ** -power) : new Exact(10n ** power));
   }
 
-  notANumber(text, plain) {
+  notANumber(text, plain, exponent) {
     const { locale, others } = this.reading;
     for (const [other, mark, point, group] of others) {
-      if (this.plain(plain, point, group) !== null) {
+      if (this.plain(plain, point, exponent ? '' : group) !== null) {
         return this.fault('MARK_OF_OTHER_LOCALE', { text, mark, locale: filled(this.words.OWN_LOCALE, { locale }) }, 'USE_LOCALE', { locale: other });
       }
     }
@@ -91,7 +91,7 @@ export class CellReader {
   unitOf(text) {
     let plain = text.trim().replace(/^[[\]()]+|[[\]()]+$/g, '').trim();
     plain = this.others.get(plain.toLowerCase()) ?? plain;
-    return this.known.get(plain.toLowerCase()) ?? plain;
+    return plain === this.reading.units.megalitres ? plain : this.known.get(plain.toLowerCase()) ?? plain;
   }
 
   /** The unit that a cell names, or the one that holds without it. */

@@ -59,11 +59,17 @@ export function quoted(text) {
   return quote + text.replaceAll('\\', '\\\\').replaceAll(quote, `\\${quote}`) + quote;
 }
 
-/** A sentence with values in place of its marks: `{name}`, `{name!r}` in quotes, `{name:,}` with commas. */
+// what stands between thousands in the page's language
+const between = { de: '.', es: '.' };
+
+/** A figure with what the page's language writes between thousands. */
+const figure = (number) => grouped(number).replaceAll(',', between[globalThis.document?.documentElement.lang] ?? ',');
+
+/** A sentence with values in place of its marks: `{name}`, `{name!r}` in quotes, `{name:,}` with separated thousands. */
 export function filled(sentence, values) {
   return sentence.replace(/\{(\w+)(!r|:,)?\}/g, (_, name, form) => {
     const value = values[name];
     if (value === undefined) throw new Error(`there is no ${name} for: ${sentence}`);
-    return form === '!r' ? quoted(String(value)) : form === ':,' ? grouped(value) : String(value);
+    return form === '!r' ? quoted(String(value)) : form === ':,' ? figure(value) : String(value);
   });
 }
