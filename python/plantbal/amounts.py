@@ -174,7 +174,7 @@ def variance_of(
     return str(int(square.to_integral_value(rounding=ROUND_CEILING)))
 
 
-def day_text(day: Day, what: str = "DATE") -> str:
+def day_as_given(day: Day, what: str = "DATE") -> str:
     """Return a day as a session writes it; a text is taken as it stands.
 
     Raises

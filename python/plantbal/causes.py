@@ -12,6 +12,7 @@ from enum import Enum
 from typing import Any
 
 from plantbal.faults import InputFault, Place
+from plantbal.sentence import Language, Sentence, said_in
 
 
 class Causes(Enum):
@@ -42,6 +43,15 @@ class Case:
     cause: Causes
     values: Mapping[str, object] = field(default_factory=dict)
 
+    @property
+    def sentence(self) -> Sentence:
+        """Its sentence, which other languages can say too."""
+        return Sentence(str(self.cause.value), **self.values)
+
+    def said_in(self, language: Language) -> str:
+        """Return its sentence in a language."""
+        return said_in(language, self.sentence)
+
     def __str__(self) -> str:
         return str(self.cause.value).format(**self.values)
 
@@ -58,7 +68,7 @@ class CausedFault(InputFault):
     def __init__(
         self, case: Case, *, place: Place | None = None, text: str = "", remedy: str = ""
     ) -> None:
-        super().__init__(str(case), place=place, text=text, remedy=remedy)
+        super().__init__(case.sentence, place=place, text=text, remedy=remedy)
         self.case = case
 
     def at(self, place: Place, text: str) -> CausedFault:

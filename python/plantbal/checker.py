@@ -319,7 +319,7 @@ def value_of(form: Any, text: str) -> str | int | None:
     return int(text)
 
 
-def row_of(fields: list[str]) -> Row:
+def checked_row(fields: list[str]) -> Row:
     """Return a row by its columns."""
     names, *forms = COLUMNS[fields[0]]
     ask(len(fields) == len(forms) + 1, "fields")
@@ -352,21 +352,21 @@ class ReadRows:
 
     def block(self, fields: list[str]) -> CheckedBlock:
         """Return the block that a `report` row begins."""
-        head = row_of(fields)
+        head = checked_row(fields)
         ask(1 <= head.nodes <= MOST_NODES and 0 <= head.streams <= MOST_STREAMS, "count")
         nodes: dict[str, Row] = {}
         for _ in range(head.nodes):
-            node = row_of(self.next("node"))
+            node = checked_row(self.next("node"))
             ask(node.name not in nodes, "duplicate")
             ask(nodes or node.name == "env", "env")
             nodes[node.name] = node
         streams = self.streams(head.streams, nodes)
-        solved = row_of(self.next("solved"))
+        solved = checked_row(self.next("solved"))
         ask(solved.state in ("converged", "unconverged"), "word")
         tests: list[Row] = []
         fields = self.next("end", *AFTER["solved"])
         while fields[0] != "end":
-            test = row_of(fields)
+            test = checked_row(fields)
             if test.row == "global":
                 test.name, test.low, test.high = "", solved.low, solved.high
             else:
@@ -374,7 +374,7 @@ class ReadRows:
             ask(test.verdict in VERDICTS, "word")
             tests.append(test)
             fields = self.next("end", *AFTER[test.row])
-        end = row_of(fields)
+        end = checked_row(fields)
         ask((end.period, end.round) == (head.period, head.round), "unknown")
         return CheckedBlock(head, nodes, streams, solved, tests)
 
@@ -388,7 +388,7 @@ class ReadRows:
             fields = self.next("stream")
             width = width or len(fields)
             ask(len(fields) == width, "fields")
-            s = row_of([*fields[:10], "", "", *fields[10:]] if width == 13 else fields)
+            s = checked_row([*fields[:10], "", "", *fields[10:]] if width == 13 else fields)
             for one, other in (s.value, s.variance), (s.lo, s.hi), (s.least_lo, s.least_hi):
                 ask((one is None) == (other is None), "number")
             side = s.side.split(" ") if s.side else []

@@ -13,7 +13,7 @@ from typing import Any, NoReturn, Protocol, cast
 
 from plantbal.faults import Fault, Faults, ToolMissing
 from plantbal.plain import plain_streams
-from plantbal.statuses import ExitStatus, said
+from plantbal.statuses import ExitStatus, statuses_said
 
 # Each is imported by the calls that need it, and is Debian's package python3-NAME.
 LIBRARIES = frozenset(
@@ -103,7 +103,7 @@ COMMANDS: tuple[Command, ...] = (
 EPILOG = f"""
 Each subcommand ends with one of these statuses:
 
-{said()}
+{statuses_said()}
 examples:
   plantbal-desk run day.csv --out day.xlsx
   plantbal run --tests < month.csv | plantbal-desk page --title May > may.html
@@ -194,7 +194,7 @@ def _options(parser: argparse.ArgumentParser, words: Sequence[str]) -> argparse.
     return options
 
 
-def call(parser: argparse.ArgumentParser, words: Sequence[str]) -> int:
+def run_words(parser: argparse.ArgumentParser, words: Sequence[str]) -> int:
     """Run a command by its words, and return its status."""
     options = _options(parser, words)
     with plain_streams():
@@ -238,7 +238,7 @@ def _called(options: argparse.Namespace) -> int:
 def end(parser: argparse.ArgumentParser, words: Sequence[str]) -> NoReturn:
     """Run a command, and end with its status: a mistake of our own is none that a person looks at."""
     try:
-        status = call(parser, words)
+        status = run_words(parser, words)
     except Exception:
         traceback.print_exc()
         status = ExitStatus.FAILED

@@ -19,6 +19,8 @@ from plantbal.schema import schema
 # The day and the mark at the end of an id, which are short after a long tag. A fact that was struck
 # and comes again has a number after its id.
 _MARKED = re.compile(r".*(?:_[0-9]{4}-[0-9]{2}-[0-9]{2}\.est|_[0-9]{8}\.e)(?:\.[0-9]+)?")
+# What is in each of them.
+MARK = ".e"
 _MOST = schema().limits["most_name"]
 
 

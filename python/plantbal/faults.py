@@ -1,4 +1,4 @@
-"""What can be wrong: each fault says where, what stands there, and what to do about it."""
+"""What can be wrong: each fault says where, what was found, and what to do about it."""
 
 from __future__ import annotations
 
@@ -6,12 +6,13 @@ import errno
 import os
 import stat
 import sys
-from collections.abc import Sequence
+from collections.abc import Iterator, Sequence
 from dataclasses import dataclass
 from pathlib import Path
 from typing import TYPE_CHECKING, Any, BinaryIO, ClassVar
 
 from plantbal import limits
+from plantbal.sentence import Language, Sentence, counted, phrase, said_in
 from plantbal.statuses import ExitStatus
 
 if TYPE_CHECKING:
@@ -64,23 +65,32 @@ class Place:
     cell: str = ""
 
     def __str__(self) -> str:
-        parts = []
-        name = "!".join(filter(None, (self.file, self.sheet, self.cell)))
-        if name:
-            parts.append(f"{name}:")
-        inner = []
+        return " ".join(f"{part}:" for part in (self._name, ", ".join(self._inner())) if part)
+
+    @property
+    def _name(self) -> str:
+        """The file, the sheet and the cell."""
+        return "!".join(filter(None, (self.file, self.sheet, self.cell)))
+
+    def _inner(self) -> Iterator[Sentence]:
+        """Give what there is within a file or a sheet."""
         if self.line is not None:
-            inner.append(f"line {self.line}")
+            yield Sentence("line {line}", line=self.line)
         if self.record is not None:
-            inner.append(f"record {self.record}")
+            yield Sentence("record {record}", record=self.record)
         if self.row:
-            head = self.head if self.column is None else ""
-            inner.append(f"row {self.row}" + (f", column {head}" if head else ""))
-        if self.column is not None:
-            inner.append(f"column {self.column}" + (f" ({self.head})" if self.head else ""))
-        if inner:
-            parts.append(", ".join(inner) + ":")
-        return " ".join(parts)
+            yield Sentence("row {row}", row=self.row)
+            if self.head and self.column is None:
+                yield Sentence("column {column}", column=self.head)
+        if self.column is not None and self.head:
+            yield Sentence("column {column} ({head})", column=self.column, head=self.head)
+        elif self.column is not None:
+            yield Sentence("column {column}", column=self.column)
+
+    def said_in(self, language: Language) -> str:
+        """Return it in a language."""
+        inner = ", ".join(said_in(language, each) for each in self._inner())
+        return " ".join(f"{part}:" for part in (self._name, inner) if part)
 
 
 class Fault(Exception):
@@ -204,7 +214,8 @@ class Faults(Fault):
     """
 
     def __init__(self, faults: Sequence[Fault], lines: Sequence[str], then: str) -> None:
-        super().__init__(f"{len(faults):,} fault{'' if len(faults) == 1 else 's'}, and {then}")
+        one, many = "1 fault, and {then}", "{count:,} faults, and {then}"
+        super().__init__(counted(len(faults), one, many, then=phrase(then)))
         self.faults = tuple(faults)
         self.lines = tuple(lines)
         if faults and all(fault.ends is faults[0].ends for fault in faults):

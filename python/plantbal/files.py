@@ -11,7 +11,7 @@ from contextlib import contextmanager
 from pathlib import Path
 
 from plantbal.faults import FileFault, Place
-from plantbal.plain import named
+from plantbal.plain import with_name
 
 # What to do about a file that can't be written, by the system's number of the fault.
 _UNWRITTEN = {
@@ -75,7 +75,7 @@ def replacing(path: str | Path) -> Iterator[Path]:
 def write_bytes(path: str | Path, data: bytes) -> None:
     """Write a file by rename, or standard output if the path is ``-``."""
     if str(path) == "-":
-        with named("standard output"):
+        with with_name("standard output"):
             sys.stdout.buffer.write(data)
             sys.stdout.buffer.flush()
         return

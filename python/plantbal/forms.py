@@ -1,4 +1,4 @@
-"""What a file is that is no session, by its first bytes or its first thousand rows.
+"""What a file is that isn't a session, by its first bytes or its first thousand rows.
 
 A file of another form is told at once: each of its rows would be a refused one, and there may be
 millions of them.

@@ -53,7 +53,7 @@ class _Plain:
 
     def write(self, text: str) -> int:
         """Write a text."""
-        with named(self._name):
+        with with_name(self._name):
             return self.beneath.write(plain(text))
 
     def writelines(self, lines: Iterable[str]) -> None:
@@ -63,12 +63,12 @@ class _Plain:
 
     def flush(self) -> None:
         """Write what is kept."""
-        with named(self._name):
+        with with_name(self._name):
             self.beneath.flush()
 
 
 @contextmanager
-def named(name: str) -> Iterator[None]:
+def with_name(name: str) -> Iterator[None]:
     """Give a fault of writing the name of what is written, if it has none."""
     try:
         yield

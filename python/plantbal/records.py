@@ -54,6 +54,8 @@ def read_records(data: bytes) -> Iterator[Record]:
 
 def without_empty_end(fields: tuple[str, ...]) -> tuple[str, ...]:
     """Return a record without the empty fields at its end."""
+    if fields and fields[-1]:
+        return fields
     count = len(fields)
     while count and not fields[count - 1]:
         count -= 1

@@ -6,7 +6,7 @@ from collections.abc import Callable
 from pathlib import Path
 from typing import TYPE_CHECKING, Any
 
-from plantbal.audit.believed import judge
+from plantbal.audit.believed import require_believed
 from plantbal.faults import InputFault, Place, read_bytes
 from plantbal.forms import session_to_run
 from plantbal.program import call, words_of
@@ -110,7 +110,7 @@ def run(
     source, data, left_out = session_bytes(session)
     status, text = call(words, data, program=program, timeout=timeout, memory=memory, watch=watch)
     if judged:
-        judge(text, f"the output of {source}", program)
+        require_believed(text, f"the output of {source}", program)
     output = parse_report(text.decode("utf-8"), f"the output of {source}", status)
     output.left_out = left_out
     if fallback:

@@ -25,7 +25,7 @@ class ExitStatus(IntEnum):
     GOOD = 0, "done, and nobody has to look"
     LOOK = 1, "somebody has to look: something was found, or an input is at fault"
     USAGE = 2, "unknown subcommand or option, or a wrong argument"
-    FAILED = 3, "it couldn't be run, or what came of it couldn't be kept"
+    FAILED = 3, "it couldn't be run, or its result couldn't be saved"
     STOPPED = 130, "it was stopped by Ctrl-C, or by SIGTERM"
 
 
@@ -34,6 +34,6 @@ def looks(wants: object) -> ExitStatus:
     return ExitStatus.LOOK if wants else ExitStatus.GOOD
 
 
-def said() -> str:
+def statuses_said() -> str:
     """Return all statuses in a line each, as `--help` and the manual page have them."""
     return "".join(f"  {each.value:<4} {each.about}\n" for each in ExitStatus)

@@ -90,7 +90,9 @@ def journal_of(folder: Path) -> list[list[str]]:
 def typed(*words: object) -> int:
     """Type a command on a book, and return its status; what it says isn't kept."""
     command = next(command for command in desk.COMMANDS if command.word == "book")
-    return desk.call(desk.parser_of(command, "plantbal-desk book"), [str(word) for word in words])
+    return desk.run_words(
+        desk.parser_of(command, "plantbal-desk book"), [str(word) for word in words]
+    )
 
 
 @pytest.fixture(name="book")

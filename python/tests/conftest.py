@@ -70,7 +70,7 @@ def fixture_say(capfdbinary: pytest.CaptureFixture[bytes], monkeypatch: pytest.M
         monkeypatch.setattr("sys.stdin", io.TextIOWrapper(io.BytesIO(data)))
         capfdbinary.readouterr()
         try:
-            status = desk.call(desk.desk_parser(), [str(word) for word in words])
+            status = desk.run_words(desk.desk_parser(), [str(word) for word in words])
         except SystemExit as ended:
             status = int(ended.code or 0)
         out, err = capfdbinary.readouterr()

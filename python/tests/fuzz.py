@@ -67,7 +67,7 @@ def tried(target: Target, path: Path) -> Failure | None:
     signal.alarm(20 * HANG)
     try:
         with _quiet() as said:
-            status = target.call() if target.call else desk.call(_parser(words[0]), words[1:])
+            status = target.call() if target.call else desk.run_words(_parser(words[0]), words[1:])
         if found := _RAISED.search(said()):
             return Failure(target, said()[max(0, found.start() - 100) : found.end() + 100], "")
     except SystemExit as ended:

@@ -10,7 +10,7 @@ import zipfile
 from collections.abc import Callable
 from dataclasses import replace
 
-from plantbal.book.journal import FIRST_BEFORE, HEAD_TEXT, HEADS, csv_text
+from plantbal.book.journal import FIRST_BEFORE, HEAD_TEXT, HEADS, journal_text
 from plantbal.audit.bundle import DIGESTS, MANIFEST, NAMES, Manifest, digests_text, packed
 from plantbal.audit.changed import digest
 from plantbal.faults import Fault
@@ -158,6 +158,6 @@ def rebound(data: bytes) -> bytes:
         row = [*cells[: len(HEADS) - 2], before]
         if cells[:1] != [""]:
             row[0] = str(number)
-        before = hashlib.sha256(csv_text([row]).rstrip("\n").encode()).hexdigest()
+        before = hashlib.sha256(journal_text([row]).rstrip("\n").encode()).hexdigest()
         rows.append([*row, before])
-    return (HEAD_TEXT + csv_text(rows)).encode()
+    return (HEAD_TEXT + journal_text(rows)).encode()

@@ -25,7 +25,7 @@ import numpy
 sys.path.insert(0, str(Path(__file__).resolve().parents[1]))
 from plantbal.balance import Flow, Known, Measured, Problem, Solution, solve  # noqa: E402
 from plantbal.balance.solve import NoMinimum  # noqa: E402
-from plantbal.balance.table import lines_of, recoveries_of  # noqa: E402
+from plantbal.balance.table import recoveries_of, table_lines  # noqa: E402
 from plantbal.faults import Fault  # noqa: E402
 
 ERROR = 0.02
@@ -461,7 +461,7 @@ def speed(seed: int = 1) -> tuple[int, float]:
     rng = random.Random(seed)
     problem = joined(rng, 300, 5).problem(rng, 0.6, 0.6)
     begin = time.process_time()
-    list(lines_of(Known(solve(problem))))
+    list(table_lines(Known(solve(problem))))
     return len(problem.flows), time.process_time() - begin
 
 

@@ -13,7 +13,7 @@ from collections.abc import Callable
 from dataclasses import dataclass, field, replace
 from functools import cache
 
-from plantbal.study.critical import of_each, thousandths
+from plantbal.study.critical import chi_squared_thousandths, of_each
 
 FIRST = datetime.date(2024, 3, 1)
 DAYS = 31
@@ -191,9 +191,11 @@ class Month:
             base = 0 if each.kind == "plain" else 1_000_000
             rows.append(f"stream,{each.name},{start},{end},{each.kind},{base}")
         last = FIRST + datetime.timedelta(DAYS - 1)
-        rows += [f"critical,global,{dof},{thousandths(0.05, dof)}" for dof in range(1, 40)]
         rows += [
-            f"critical,{kind},{thousandths(of_each(0.05, count), 1)}"
+            f"critical,global,{dof},{chi_squared_thousandths(0.05, dof)}" for dof in range(1, 40)
+        ]
+        rows += [
+            f"critical,{kind},{chi_squared_thousandths(of_each(0.05, count), 1)}"
             for kind, count in (("nodal", 27), ("measure", 50))
         ]
         return [*rows, f"period,2024-03,{FIRST},{last}"]

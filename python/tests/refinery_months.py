@@ -20,7 +20,7 @@ from dataclasses import dataclass, field
 from pathlib import Path
 
 sys.path.insert(0, str(Path(__file__).resolve().parents[1]))
-from plantbal.gates import Gate, Stop, by_session, said_of  # noqa: E402
+from plantbal.gates import Gate, Stop, by_session, said_of_stop  # noqa: E402
 from plantbal.model.ledger import Ledger  # noqa: E402
 
 UNITS = "CDU VDU FCC HDS REF GAS FUEL".split()
@@ -391,7 +391,7 @@ def main(words: list[str]) -> None:
     for each in range(seed, seed + count):
         for stop in stops_of(months_of(each, 1 + each % 3)):
             found[stop.gate] += 1
-            print(f"{each}: {stop.gate}: {said_of(stop)}")
+            print(f"{each}: {stop.gate}: {said_of_stop(stop)}")
     print(f"{count} months: {dict(found) or 'nothing'}")
 
 

@@ -3,6 +3,7 @@
 from __future__ import annotations
 
 import csv
+import datetime
 import io
 import random
 
@@ -140,6 +141,23 @@ def record_of(chance: random.Random) -> list[str]:
     return [row.kind, *fields]
 
 
+def run_of(chance: random.Random) -> list[list[str]]:
+    """Return a run of readings, most of which are accepted, in a session of the plants here."""
+    first, rows = datetime.date(2024, 1, 1), []
+    often = chance.choice([0, 0.05, 0.5])
+    for number in range(chance.randint(9, 40)):
+        day = first + datetime.timedelta(days=number // 2)
+        row = [f"r{number}", "SR"[number % 2], day.isoformat(), str(number), "5"]
+        if chance.random() < often:
+            place = chance.randrange(5)
+            near = rows[-1][place + 1] if rows else ""
+            row[place] = chance.choice([near, *WRONG, *NAMES["stream"], *DAYS])
+        rows.append(["reading", *row])
+        if chance.random() < often / 10:
+            rows[-1] += chance.choice([["x"], [""], ["", "x"]])
+    return rows
+
+
 def session_of(number: int) -> bytes:
     """Return the session of a number, as the bytes of a file."""
     chance = random.Random(number)
@@ -148,6 +166,9 @@ def session_of(number: int) -> bytes:
         rows.pop(chance.randrange(len(rows)))
     out = io.StringIO()
     records = [record_of(chance) for _ in range(chance.randint(10, 40))]
+    if chance.random() < 0.4:
+        place = chance.randrange(len(records))
+        records[place:place] = run_of(chance)
     csv.writer(out, lineterminator=chance.choice(["\n", "\r\n"])).writerows(records)
     asks = "".join(f"history,{name}\n" for name in ("p", "o"))
     return ("".join(f"{row}\n" for row in rows) + out.getvalue() + asks).encode()

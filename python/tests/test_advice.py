@@ -17,7 +17,7 @@ from plantbal.model.topology import Arc, classes_of
 from plantbal.page.command import page
 from plantbal.report.output import parse_report
 from plantbal.report.picture import advised
-from plantbal.study.advice import advise, plant_of, read_costs
+from plantbal.study.advice import advise, plant_session, read_costs
 
 METERS = example("crude_unit_meters.csv")
 COSTS = {"CRUDE": 12000, "RES": 9000, "NAPH": 4000, "KERO": 4500, "SLOP": 300}
@@ -29,7 +29,7 @@ def written() -> Output:
 
 
 def test_lines(program: Path) -> None:
-    found = advise(plant_of("a", METERS.read_bytes()), COSTS, program=str(program))
+    found = advise(plant_session("a", METERS.read_bytes()), COSTS, program=str(program))
     assert found.total == 13300
     assert [each["stream"] for each in found.meters] == ["RES", "NAPH", "SLOP"]
     assert list(found.lines()) == [
@@ -41,7 +41,7 @@ def test_lines(program: Path) -> None:
 
 
 def test_no_meter_is_needed(program: Path) -> None:
-    plant = plant_of("a", example("two_meters.csv").read_bytes())
+    plant = plant_session("a", example("two_meters.csv").read_bytes())
     found = advise(plant, program=str(program))
     assert list(found.lines()) == ["no meter is needed: every stream is observable as it is"]
 
@@ -112,13 +112,13 @@ def test_page() -> None:
 def test_costs(tmp_path: Path, cells: str) -> None:
     path = tmp_path / "costs.csv"
     path.write_text(cells, encoding="utf-8")
-    assert read_costs(path, plant_of("a", METERS.read_bytes())) == {"RES": 9000}
+    assert read_costs(path, plant_session("a", METERS.read_bytes())) == {"RES": 9000}
 
 
 def test_locale(tmp_path: Path) -> None:
     path = tmp_path / "costs.csv"
     path.write_text("stream;cost\nRES;9.000\n", encoding="utf-8")
-    plant = plant_of("a", METERS.read_bytes())
+    plant = plant_session("a", METERS.read_bytes())
     assert read_costs(path, plant, "de") == {"RES": 9000}
     with pytest.raises(Fault, match="9.000.*use --locale en, --locale de"):
         read_costs(path, plant)

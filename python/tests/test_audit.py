@@ -27,7 +27,7 @@ from plantbal.audit.bundle import (
     unpacked,
 )
 from plantbal.audit.changed import digest, digests_of_parts, where
-from plantbal.audit.held import Pair, answers_of, refused_differ
+from plantbal.audit.held import Pair, answered_rows, refused_differ
 from plantbal.audit.runwords import words_read
 from plantbal.build import Build, build_of
 from plantbal.faults import Fault, InputFault
@@ -56,7 +56,7 @@ def fixture_month(program: Path, tmp_path_factory: pytest.TempPathFactory) -> Pa
     session = folder / "concentrator.csv"
     session.write_bytes(b"unit,FUEL GAS\n" + MONTH.read_bytes() + b"report,july\n")
     words = ["archive", str(session), "--out", str(folder / "month.zip"), *TIME]
-    assert desk.call(desk.desk_parser(), words) == 1
+    assert desk.run_words(desk.desk_parser(), words) == 1
     return folder / "month.zip"
 
 
@@ -79,7 +79,7 @@ def fixture_bundles(month: Path) -> dict[str, Path]:
     for name, more in BUNDLES.items():
         if name != "month":
             words = ["archive", str(example(f"{name}.csv")), "--out", str(found[name])]
-            assert desk.call(desk.desk_parser(), [*words, *more, *TIME]) in (0, 1)
+            assert desk.run_words(desk.desk_parser(), [*words, *more, *TIME]) in (0, 1)
     return found
 
 
@@ -166,7 +166,7 @@ def sessions() -> list[Path]:
 def test_each_session_agrees_with_its_output(path: Path, program: Path) -> None:
     data = path.read_bytes()
     output = call(words_of(path), data, program=program)[1]
-    ledger, answers = Ledger(path.name, data), answers_of(output)
+    ledger, answers = Ledger(path.name, data), answered_rows(output)
     assert not list(refused_differ(output, ledger))
     assert len(ledger.seen) == len(answers)
     for pair in map(Pair, studies_of(ledger), answers):
@@ -177,7 +177,7 @@ def test_a_made_plant_agrees(program: Path) -> None:
     data = call(["make", "--streams", "60"], b"", program=program)[1]
     output = call(["run"], data, program=program)[1]
     ledger = Ledger("made", data)
-    assert not list(Pair(studies_of(ledger)[0], answers_of(output)[0]).differ())
+    assert not list(Pair(studies_of(ledger)[0], answered_rows(output)[0]).differ())
 
 
 def test_an_elimination_and_a_report_of_json(say: Desk, tmp_path: Path, program: Path) -> None:

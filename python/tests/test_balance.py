@@ -12,7 +12,7 @@ from plantbal.balance import Class, Flow, Known, Measured, Problem, solids_of, s
 from plantbal.balance.certify import pulls_of, session_of
 from plantbal.balance.pulps import with_water
 from plantbal.balance.solve import NoMinimum
-from plantbal.balance.table import lines_of
+from plantbal.balance.table import table_lines
 from plantbal.faults import Fault
 
 
@@ -132,7 +132,7 @@ def test_water_of_a_thickener_by_hand(tmp_path: Path) -> None:
     # 80 t of water with 20 t of solids: 400 t with 100. A pulp of 1.452 t/m3 is 2.65 * 0.452 /
     # (1.452 * 1.65) = 0.499958 solids, so 100.017 t go on; 2.5 t come with the flocculant
     known = Known(solve(watered(tmp_path)))
-    lines = {(line.stream, line.component): line for line in lines_of(known)}
+    lines = {(line.stream, line.component): line for line in table_lines(known)}
     solids = 2.65 * 0.452 / (1.452 * 1.65)
     left = 100 * (1 - solids) / solids
     over = lines["OVER", "water"]

@@ -10,7 +10,7 @@ from books import ANYWAY, Type, files_of, fixture_book
 from conftest import Desk, example, text_of
 
 from plantbal import run
-from plantbal.audit.believed import judge, program_digest
+from plantbal.audit.believed import program_digest, require_believed
 from plantbal.faults import InputFault
 
 __all__ = ["fixture_book"]
@@ -39,20 +39,20 @@ def test_what_is_said(forged: Path, tmp_path: Path) -> None:
     """The block, the test, the place, and both numbers; and which program it was."""
     data = (tmp_path / "forged.csv").read_bytes()
     with pytest.raises(InputFault) as found:
-        judge(data, "the report", forged)
+        require_believed(data, "the report", forged)
     said = str(found.value)
     digest = hashlib.sha256(forged.read_bytes()).hexdigest()
     assert said.startswith("the report: the block of may1, round 0, fails the test balance (3) at ")
     assert ": 0 is stated, and " in said and "1000000 is found" in said, said
     assert f"nothing of it is kept: {forged} (SHA-256 {digest}) wrote a report" in said
     assert program_digest() == digest
-    judge(REPORT.read_bytes(), "the report")
-    judge(b"", "no report")
-    judge(b"refused,1,1,kind,\n", "no block")
+    require_believed(REPORT.read_bytes(), "the report")
+    require_believed(b"", "no report")
+    require_believed(b"refused,1,1,kind,\n", "no block")
     head, _, _ = REPORT.read_bytes().partition(b"\nnode,")
     number = head.count(b"\n") + 2
     with pytest.raises(InputFault, match=rf"its row {number} can't be read \(ended\)"):
-        judge(head + b"\n", "a piece")
+        require_believed(head + b"\n", "a piece")
 
 
 def test_nothing_is_kept(forged: Path, say: Desk, tmp_path: Path) -> None:

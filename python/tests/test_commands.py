@@ -21,6 +21,7 @@ PAGES = [
     for path in [
         *(TOP / name for name in ("README.md", "CONTRIBUTING.md", "coq/README.md")),
         *sorted((TOP / "docs").glob("*.md")),
+        *sorted((TOP / "docs").glob("*.[0-9]")),
     ]
     if path.stem not in ("STATEMENT", "MESSAGES", "CHANGELOG")
 ]
@@ -105,12 +106,19 @@ def wrong(words: list[str]) -> str:
     return "" if (TOP / first).exists() else f"no script {first}"
 
 
+def shown(page: str) -> str:
+    """The text of a page; of a manual page its examples, as lines of code."""
+    text = text_of(TOP / page)
+    if page.endswith(".md"):
+        return text
+    blocks = re.findall(r"^\.EX\n(.*?)^\.EE$", text.replace("\\-", "-"), re.M | re.S)
+    return re.sub(r"(?m)^", "    ", "".join(blocks))
+
+
 @pytest.mark.parametrize("page", PAGES)
 def test_commands_are_there(page: str) -> None:
     said = [
-        f"{' '.join(words)}: {what}"
-        for words in commands(text_of(TOP / page))
-        if (what := wrong(words))
+        f"{' '.join(words)}: {what}" for words in commands(shown(page)) if (what := wrong(words))
     ]
     assert not said, said
 

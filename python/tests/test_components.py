@@ -536,7 +536,7 @@ def with_flow(old: str, new: str) -> str:
 
 @pytest.mark.parametrize("old, new, said", IMPOSSIBLE, ids=[case[1] for case in IMPOSSIBLE])
 def test_what_cannot_be(say: Desk, tmp_path: Path, old: str, new: str, said: str) -> None:
-    """A stream can't carry more of a component than there is of it, nor the other way.
+    """A stream can't carry more of a component than its whole mass, nor the other way.
 
     What the error of the assays explains is possible: pure copper may be a little more than all.
     """
@@ -570,7 +570,7 @@ component,cu,jun03
 
 def test_where_it_is_said(say: Desk, tmp_path: Path, program: Path) -> None:
     """The statement's verdict of the balance has it, and the fleet wants a person."""
-    said = "CONCENTRATE carries 351.204 t of cu in 342.960 t, more than there is of it"
+    said = "CONCENTRATE carries 351.204 t of cu in 342.960 t, more than its whole mass"
     out = tmp_path / "out.csv"
     out.write_text(with_flow(FLOWS[0], "351204000,351203990,351204010"))
     made = read(page(parse_rows("out", text_of(out)))).text
@@ -581,7 +581,7 @@ def test_where_it_is_said(say: Desk, tmp_path: Path, program: Path) -> None:
     for name, grade in (("bad", "500000"), ("good", "900000")):
         (sessions / f"{name}.csv").write_text(LEFT_OVER.replace("GRADE", grade))
     found = say("fleet", "--program", program, "--out", tmp_path / "nights", sessions)
-    said = "B carries 65.000 t of cu in 10.000 t, more than there is of it"
+    said = "B carries 65.000 t of cu in 10.000 t, more than its whole mass"
     assert found.status == 1 and f"bad, cu in jun03: {said}" in found.err
     looks = pandas.read_csv(io.StringIO(found.out)).set_index(["site", "period"])["look"].dropna()
     assert list(looks.index) == [("bad", "cu in jun03")] and looks.iloc[0].startswith(said)
@@ -620,7 +620,7 @@ def test_a_mistyped_grade_in_a_book(say: Desk, tmp_path: Path, program: Path) ->
 
 
 def test_a_close_that_cannot_be(say: Desk, tmp_path: Path, program: Path) -> None:
-    """A period isn't closed while a stream carries more of a component than there is of it.
+    """A period isn't closed while a stream carries more of a component than its whole mass.
 
     Ninety per cent was typed for the feed's 0.9: 90 t of copper come in and 0.9 t go to tailings,
     so that 89.1 t are left for 10 t of concentrate.
@@ -637,7 +637,7 @@ def test_a_close_that_cannot_be(say: Desk, tmp_path: Path, program: Path) -> Non
         (month / f"{name}.csv").write_text(text, encoding="utf-8")
     assert say("book", "new", "2024", month, *books).status == 0
     assert say("book", "add", month, *books).status == 0
-    said = "cu in apr1: CONC carries 89.100 t of cu in 10.000 t, more than there is of it"
+    said = "cu in apr1: CONC carries 89.100 t of cu in 10.000 t, more than its whole mass"
     assert said in say("book", "report", "apr1", *books).out
     found = say("book", "close", "apr1", *books)
     assert found.status == 1 and said in found.out

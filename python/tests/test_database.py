@@ -380,7 +380,7 @@ def test_a_pull_is_read_only(say: Desk, mill: Path, mapping: Path, tables: Serve
 def test_what_a_mapping_may_not_say(say: Desk, mill: Path, tmp_path: Path) -> None:
     cases = {
         "url = 3": "[source] has no url",
-        'url = "nonsense"': "[source] url is none",
+        'url = "nonsense"': "[source] url isn't the address of a database",
         'url = "sqlite:///none.db"': "there is no such database",
         'url = "x"\npassword = "hunter2"': "isn't the place of a password",
         'url = "x"\n[[query]]\nsheet = "streams"\nsql = "x"': "'streams' isn't a sheet of facts",
@@ -494,7 +494,9 @@ def begun(mapping: Path, book: Path, *words: str) -> int:
         nothing = os.open(os.devnull, os.O_WRONLY)
         os.dup2(nothing, 1), os.dup2(nothing, 2)
         first, *more = words
-        status = desk.call(desk.desk_parser(), [first, str(mapping), *more, "--book", str(book)])
+        status = desk.run_words(
+            desk.desk_parser(), [first, str(mapping), *more, "--book", str(book)]
+        )
     finally:
         os._exit(status)
 
@@ -536,11 +538,13 @@ sql = "SELECT tank, day, level FROM dips WHERE day BETWEEN :eve AND :last"
         for day, *values in april["readings"][1:]:
             for tag, value in zip(("F-1", "P-1"), values):
                 base.execute("INSERT INTO daily VALUES (?, ?, ?)", (day, tag, float(value)))
+        base.execute("INSERT INTO daily VALUES ('2024-04-04', 'F-1', 9e999)")
         base.executemany("INSERT INTO dips VALUES (?, ?, ?)", april["dips"][1:])
         base.executescript(tables_sql(read_queries(path)))
     said = say("pull", path, "--book", mill, *DAYS)
     assert (said.status, said.err) == (0, ""), said
-    assert "6 readings, 2 dips" in said.out and "query 1: 6 are floats" in said.out
+    assert "6 readings, 2 dips" in said.out and "query 1: 7 are floats" in said.out
+    assert "query 1: 1 figure is NaN or infinite, and taken for missing: value" in said.out
     assert any(
         row.startswith("reading,P-1_2024-04-02,PRODUCT,2024-04-02,1199500000,")
         for row in rows_of(tmp_path)
@@ -555,4 +559,4 @@ sql = "SELECT tank, day, level FROM dips WHERE day BETWEEN :eve AND :last"
     )
     assert say("pull", path, "--book", mill, *DAYS).status != 0
     with sqlite3.connect(tmp_path / "lims.db") as base:
-        assert base.execute("SELECT count(*) FROM daily").fetchall() == [(6,)]
+        assert base.execute("SELECT count(*) FROM daily").fetchall() == [(7,)]

@@ -6,7 +6,18 @@ from collections.abc import Callable
 
 import pytest
 
-from gate.documentation import answers, chapters, checks, citations, forms, links, rust, statement
+from gate.documentation import (
+    answers,
+    chapters,
+    checks,
+    citations,
+    forms,
+    links,
+    plain,
+    rust,
+    sizes,
+    statement,
+)
 from gate.documentation.command import main
 from gate.documentation.sources import Sources, imports
 
@@ -104,6 +115,18 @@ def test_forms_are_counted() -> None:
         assert len(forms.FORMS[form](after)) == len(forms.FORMS[form](before)) + 1, form
 
 
+def test_words_that_style_rules_out() -> None:
+    """Each word is found where users read, and not where it is quoted or typed."""
+    said = [
+        ("docs/GUIDE.md", "It is no figure, and stands in line 5, as is told. `It lacks one.`"),
+        ("README.md", "    a reason is wanted, and none came"),
+        ("packaging/plantbal.control", " It is behind it, for want of a name."),
+    ]
+    before, after = plain.ruled_out(SAME), plain.ruled_out(with_all(said))
+    new = [one.partition(":")[0] for one in after if one not in before]
+    assert new == ["docs/GUIDE.md"] * 3 + ["packaging/plantbal.control"] * 2, after
+
+
 def test_numbers_of_forms_only_fall() -> None:
     text, name = SAME.text(forms.AT_MOST), "unreachable_places"
     most = forms.at_most(SAME)[name]
@@ -122,14 +145,14 @@ def all_pages(sources: Sources) -> str:
 
 
 def test_modules_by_another_name_are_followed() -> None:
-    """A definition that is cited through a module's name stands on the page."""
+    """A definition that is cited through a module's name is on the page."""
     path = "crates/pb_cli/specs/Run.antt"
     text = SAME.text(path)
     line = next(one for one in text.splitlines() if "pb_limits.specs.Limits" in one)
     other = text.replace(line, "use Rattle.pb_limits.specs.Limits as limits")
     page = all_pages(Sources({path: other.replace("most_bytes", "limits.most_bytes")}))
     assert "\nmost_bytes = " in page
-    assert "`limits.` stands before `pb_limits/specs/Limits.antt`" in page
+    assert "`limits.` comes before `pb_limits/specs/Limits.antt`" in page
 
 
 def test_imports() -> None:
@@ -158,13 +181,25 @@ def test_names_of_two_files() -> None:
 
 
 def test_answers_that_nothing_reaches() -> None:
-    """A public call that may be out of memory and that no test makes stands in the list."""
+    """A public call that may be out of memory and that no test makes is in the list."""
     path = "crates/pb_limits/src/more.rt"
     call = "pub fn more(a: u32) -> Result<Option<u32>, AllocError> {\n    twice(a)\n}\n"
     found = Sources({path: call, LIMITS: f"{SAME.text(LIMITS)}\npub use more::more;\n"})
     found.paths.append(path)
     new = set(answers.unreached(found)) - set(answers.unreached(SAME))
     assert new == {"pb_limits::more: Ok(Some)", "pb_limits::more: Ok(None)"}
+
+
+def test_each_call_has_the_size_up_to_which_it_was_seen() -> None:
+    """Each public call that may be out of memory has a line, of kinds of sessions that are there."""
+    lines = SAME.text(sizes.SIZES)
+    wrong = lines.replace("pb_advise::advise costs", "pb_advise::no_call costs no_kind")
+    found = sizes.complaints(Sources({sizes.SIZES: wrong}))
+    assert found == [
+        f"{sizes.SIZES}: pb_advise::advise has no line",
+        f"{sizes.SIZES}: pb_advise::no_call is no public call that may be out of memory",
+        f"{sizes.SIZES}: pb_advise::no_call: no sessions of `.ci/ample`: no_kind",
+    ], "a call without a line, a line without a call, and a kind that isn't there"
 
 
 CODE = """

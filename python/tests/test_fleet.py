@@ -21,8 +21,8 @@ from conftest import TOP, Desk, example, text_of
 from mistakes import BASE, MISTAKES, Mistake
 
 from plantbal.faults import InputFault
-from plantbal.fleet.gather import asked_of, gather
-from plantbal.fleet.given import Given, days_of, has_critical, sha256_of
+from plantbal.fleet.gather import gap_and_sweeps, gather
+from plantbal.fleet.given import Given, given_days, has_critical, sha256_of
 from plantbal.fleet.job import run_here
 from plantbal.fleet.keep import checksums
 from plantbal.fleet.night import Night
@@ -506,8 +506,11 @@ def test_another_program_on_a_machine(tmp_path: Path, program: Path) -> None:
         "another program than the others, with the SHA-256 " + digest in each for each in said
     )
     assert "its report has the gap 10, and 20 was asked for" in said
-    assert asked_of(["run", "--sweeps", "7", "--gap=3", "--tests"]) == {"gap": "3", "sweeps": "7"}
-    assert asked_of(["check"]) == {}
+    assert gap_and_sweeps(["run", "--sweeps", "7", "--gap=3", "--tests"]) == {
+        "gap": "3",
+        "sweeps": "7",
+    }
+    assert gap_and_sweeps(["check"]) == {}
 
 
 STUB = """#!/bin/sh
@@ -662,8 +665,8 @@ PERIODS = {
 
 @pytest.mark.parametrize("data, refused", PERIODS.values(), ids=PERIODS)
 def test_days(data: bytes, refused: set[int]) -> None:
-    assert days_of(data, ["may"], refused) == {"may": "2024-05-01..2024-05-31"}
-    assert days_of(data, ["july"], refused) == {}
+    assert given_days(data, ["may"], refused) == {"may": "2024-05-01..2024-05-31"}
+    assert given_days(data, ["july"], refused) == {}
     assert not has_critical(data, refused)
     assert has_critical(data + b"\ncritical,global,1,3841\n", refused)
 

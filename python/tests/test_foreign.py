@@ -153,13 +153,13 @@ def test_uncertified(program: Path, monkeypatch: pytest.MonkeyPatch) -> None:
     """What doesn't get a yes isn't handed out."""
     from plantbal.study import certificate
 
-    flows_of = certificate.flows_of
+    flows_of = certificate.whole_flows
 
     def wrong(plant: NumberedPlant, prices: list[int]) -> list[int]:
         flows = flows_of(plant, prices)
         return [flows[0] + 1, *flows[1:]]
 
-    monkeypatch.setattr(certificate, "flows_of", wrong)
+    monkeypatch.setattr(certificate, "whole_flows", wrong)
     with pytest.raises(Uncertified, match="doesn't say yes to 1 of 1 blocks: d: balance"):
         solve(line(3), program=program)
 

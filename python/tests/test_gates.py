@@ -11,7 +11,7 @@ from plantbal.workbook.cells import Reader
 from plantbal.workbook.sheets import Cell, Sheet
 from refinery_months import MISTAKES, Mistake, months_of, stops_of
 
-from plantbal.gates import Gate, about, said_of
+from plantbal.gates import Gate, about, said_of_stop
 from plantbal.lint import RULES
 
 # `python3 python/tests/refinery_months.py COUNT` tries more of them.
@@ -20,7 +20,7 @@ PLAUSIBLE, TRIED = 3, 2
 
 def test_plausible_months_stop_at_nothing() -> None:
     for seed in range(PLAUSIBLE):
-        assert [said_of(stop) for stop in stops_of(months_of(seed, 1 + seed % 2))] == []
+        assert [said_of_stop(stop) for stop in stops_of(months_of(seed, 1 + seed % 2))] == []
 
 
 @pytest.mark.parametrize("mistake", MISTAKES, ids=lambda each: each.__name__)

@@ -3,13 +3,21 @@
 from __future__ import annotations
 
 import datetime
+import re
 from pathlib import Path
 from typing import Any
 
+import openpyxl
 import pytest
+from conftest import Desk, text_of
 from test_shapes import Book, Rows, adds_up, saved
 
-from plantbal import convert
+from plantbal import convert, limits
+from plantbal.faults import InputFault
+from plantbal.model.facts import Fact
+from plantbal.page.summed import summed_of_book
+from plantbal.workbook.sheets import Cell, Sheet
+from plantbal.workbook.summed import cells_text, read_summed
 
 DAY, HOUR = datetime.timedelta(days=1), datetime.timedelta(hours=1)
 UTC = datetime.timezone.utc
@@ -220,3 +228,119 @@ def test_what_isnt_told_is_a_fault(case: str, tmp_path: Path) -> None:
     found = convert(saved(tmp_path, pipe(rows, *settings)))
     assert any(what in said for said in found.said()), found.said()
     adds_up(found)
+
+
+# ---- of what a day's figure is made
+
+
+def named(room: Path, book: Book, name: str) -> Path:
+    """Save a workbook under a name."""
+    return saved(room, book).rename(room / f"{name}.xlsx")
+
+
+def test_cells_as_a_spreadsheet_writes_them() -> None:
+    sheet = Sheet("a.xlsx", "readings", [])
+    places = [(3, 2), (4, 2), (5, 2), (7, 2), (8, 3)]
+    cells = [Cell(sheet, line, column, None) for line, column in places]
+    assert cells_text(cells) == "B3:B5 B7 C8"
+
+
+TRAILS: dict[str, tuple[Rows, list[list[Any]], list[tuple[Any, ...]]]] = {
+    # fact, what it is of, figure, unit, cells, count, hours, missing
+    "hours": (
+        [*HEAD, [None, "t/h"], *hours(MAY_1, 48)],
+        [],
+        [
+            ("F-1_2024-05-01", "hours", "300", "t", "B4:B27", 24, 24, ""),
+            ("F-1_2024-05-02", "hours", "876", "t", "B28:B51", 24, 24, ""),
+        ],
+    ),
+    "25 hours": (
+        [*HEAD, *autumn()],
+        [BERLIN],
+        [("F-1_2024-10-27", "hours", "325", "t", "B3:B27", 25, 25, "")],
+    ),
+    "23 hours, two of them missing": (
+        [*HEAD, *[r for r in hours(MARCH_31, 24) if r[0].hour not in (2, 4, 23)]],
+        [BERLIN, ["missing hours", 0, None], ["stamps", "begin", None]],
+        [("F-1_2024-03-31", "hours", "268", "t", "B3:B23", 21, 23, "04:00 23:00")],
+    ),
+    "long, with the hours apart": (
+        [["time", "tag", "value"], *[r for s, v in hours(MAY_1, 24) for r in ([s, "F-1", v], [])]],
+        [],
+        [
+            (
+                "F-1_2024-05-01",
+                *("hours", "300", "t"),
+                " ".join(f"C{line}" for line in range(2, 50, 2)),
+                *(24, 24, ""),
+            )
+        ],
+    ),
+    "a counter": (
+        [["day", "F-1"], [MAY_1, 999990], [MAY_1 + DAY, 40], [MAY_1 + 2 * DAY, 100.25]],
+        [["counter", 1000000, "F-1"], ["stamps", "begin", None]],
+        [
+            ("F-1_2024-05-01", "counter", "50", "t", "B2:B3", 2, 24, ""),
+            ("F-1_2024-05-02", "counter", "60.25", "t", "B3:B4", 2, 24, ""),
+        ],
+    ),
+}
+
+
+@pytest.mark.parametrize("case", TRAILS)
+def test_a_book_keeps_of_which_cells_a_day_is(case: str, say: Desk, tmp_path: Path) -> None:
+    rows, settings, wanted = TRAILS[case]
+    sheets = pipe(rows, *settings)
+    book = "--book", tmp_path / "mill"
+    plant = named(tmp_path, {"streams": sheets.pop("streams")}, "mill")
+    assert say("book", "new", "2024", plant, *book).status == 0
+    assert say("book", "add", named(tmp_path, sheets, "may"), *book).status == 0
+    kept = read_summed(text_of(tmp_path / "mill" / "summed.csv"))
+    booked = text_of(tmp_path / "mill" / "2024.csv").splitlines()
+    for found, own in zip(kept, wanted, strict=True):
+        assert tuple(found.texts()[2:10]) == tuple(map(str, own))
+        assert (found.year, found.source) == ("2024", "may.xlsx!readings")
+        assert booked[found.row - 1].split(",")[1] == found.fact
+    said = say("book", "add", tmp_path / "may.xlsx", *book)
+    assert read_summed(text_of(tmp_path / "mill" / "summed.csv")) == kept, said
+
+
+def test_a_statement_shows_them(
+    say: Desk, tmp_path: Path, program: Path, monkeypatch: pytest.MonkeyPatch
+) -> None:
+    """From a stream's measured amount to its hours; a reading that isn't their sum is said."""
+    rows = [[*row, row[1]] for row in hours(MAY_1, 48) if row[0].hour != 4]
+    heads = [["Pipeline, hourly"], ["time", "F-1", "F-2"]]
+    sheets = pipe([*heads, *rows], ["missing hours", 0, None])
+    sheets["streams"][2] = ["F-2", "OUT", "MILL", "env", "1 t"]
+    sheets["periods"] = [["name", "first", "last"], ["may", MAY_1, MAY_1 + DAY]]
+    book = "--book", tmp_path / "mill"
+    assert say("book", "new", "2024", named(tmp_path, sheets, "may"), *book).status == 0
+    assert say("book", "add", tmp_path / "may.xlsx", *book).status == 0
+    session, out = tmp_path / "2024.csv", tmp_path / "page.html"
+    session.write_text(text_of(tmp_path / "mill" / "2024.csv") + "report,may\n", encoding="utf-8")
+    words = ("page", session, "--run", "--out", out, "--program", program, *book)
+    assert say(*words, "--xlsx", tmp_path / "page.xlsx").status in (0, 1)
+    shown = text_of(out).replace("\u00a0", " ")
+    assert len(re.findall('<tr id="p0-h', shown)) == 4 and '<a href="#p0-h2"' in shown
+    for text in ("may.xlsx!readings: B3:B25", "23 of 24 hours; taken for 0: 04:00", "295 t"):
+        assert text in shown, text
+    assert "✗" not in shown
+    table = openpyxl.load_workbook(tmp_path / "page.xlsx")["summed"]
+    assert (table.max_row, table["A1"].value) == (5, "period")
+    monkeypatch.setattr(limits, "MEASURED_SHOWN", 1)
+    assert say(*words).status in (0, 1) and "3 more are in summed.csv" in text_of(out)
+    kept = tmp_path / "mill" / "summed.csv"
+    fact = Fact("reading", "F-1_2024-05-01", "FEED", 0, 0, 295_000_000, 0, 0, 1, 6, 6, 6)
+    for old, new, what in (
+        (",295,", ",296,", "the session has 295,000,000 g, and this is 296,000,000 g"),
+        (",23,24,", ",24,24,", "24 figures aren't those of 24 hours"),
+    ):
+        (tmp_path / "summed.csv").write_text(text_of(kept).replace(old, new), encoding="utf-8")
+        (found,) = summed_of_book(str(tmp_path), [fact])
+        assert found.wrong == what and not summed_of_book(str(tmp_path), [fact._replace(line=7)])
+    for text in ("year\n", text_of(kept) + "2024,x\n", text_of(kept).replace(",23,", ",x,")):
+        (tmp_path / "summed.csv").write_text(text, encoding="utf-8")
+        with pytest.raises(InputFault, match="this isn't a file of how readings were added up"):
+            summed_of_book(str(tmp_path), [fact])

@@ -133,7 +133,7 @@ CODE = """
 import resource, sys
 from plantbal import desk
 word = next(each for each in desk.COMMANDS if each.word == sys.argv[1])
-desk.call(desk.parser_of(word, "desk"), sys.argv[2:])
+desk.run_words(desk.parser_of(word, "desk"), sys.argv[2:])
 print("peak", resource.getrusage(resource.RUSAGE_SELF).ru_maxrss * 1024, file=sys.stderr)
 """
 

@@ -353,7 +353,7 @@ CASES = [
     (
         "zero",
         days("FEED", [10**9] * 8 + [0, 0]),
-        "FEED reads 0 on 2024-01-09, 2024-01-10, though the unit that it serves goes on",
+        "FEED reads 0 on 2024-01-09, 2024-01-10, though the unit that it serves keeps running",
     ),
     (
         "frozen",
@@ -496,7 +496,7 @@ PAIRS = [
 def test_one_letter_apart(one: str, other: str, wanted: bool) -> None:
     assert one_letter_apart(one, other) is wanted
     assert one_letter_apart(other, one) is wanted
-    assert near_pairs([one, other]) == ([(one, other)] if wanted else [])
+    assert list(near_pairs([one, other])) == ([(one, other)] if wanted else [])
 
 
 @settings(deadline=None, max_examples=50)
@@ -509,7 +509,7 @@ def test_near_pairs(names: list[str]) -> None:
         for other in names[place + 1 :]
         if one_letter_apart(one, other)
     ]
-    assert near_pairs(names) == wanted
+    assert list(near_pairs(names)) == wanted
 
 
 # ---- classes and degrees of freedom without the program

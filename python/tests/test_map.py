@@ -18,7 +18,7 @@ from plantbal.workbook.conversion import Conversion
 from plantbal.workbook.mapping.form import parse_mapping, read_mapping
 from plantbal.workbook.mapping.known import KnownPlant
 from plantbal.workbook.mapping.proposing import MappingProposal, propose
-from plantbal.workbook.mapping.command import text_of
+from plantbal.workbook.mapping.command import proposal_text
 from plantbal.workbook.sheets import read_workbook
 
 Sheets = dict[str, Rows]
@@ -34,7 +34,7 @@ def proposed(
 def read_by(room: Path, sheets: Sheets, changes: dict[str, str] | None = None) -> Conversion:
     """A workbook by the mapping that is proposed, with a few changes in its text."""
     found = proposed(room, sheets)
-    text = text_of(found, "plant.xlsx")
+    text = proposal_text(found, "plant.xlsx")
     for old, new in (changes or {}).items():
         assert old in text, (old, text)
         text = text.replace(old, new)
@@ -222,7 +222,7 @@ def test_what_can_be_read_in_two_ways_is_asked(tmp_path: Path, case: str) -> Non
     found = proposed(tmp_path, plain(**changes))
     assert any(said in each for each in found.open()), found.open()
     with pytest.raises(InputFault, match=r'open: a "\?" is in the line'):
-        parse_mapping("plant.toml", text_of(found, "plant.xlsx"))
+        parse_mapping("plant.toml", proposal_text(found, "plant.xlsx"))
 
 
 def test_days_that_follow_each_other_decide(tmp_path: Path) -> None:
@@ -278,7 +278,7 @@ def test_a_workbook_of_several_plants(say: Desk, tmp_path: Path) -> None:
     rows += [[site, *row] for row in plain()["daily"][1:] for site in ("North", "South")]
     column = plain(daily=rows)
     found = proposed(tmp_path, column, "North")
-    done = convert(path, mapping=parse_mapping("m", text_of(found, "plant.xlsx")))
+    done = convert(path, mapping=parse_mapping("m", proposal_text(found, "plant.xlsx")))
     assert done.said() == [] and sums(done)["IN"] == Decimal(3100) * 10**6
     assert any("31 rows of other plants are skipped" in note for note in done.notes)
 
@@ -341,7 +341,7 @@ MISFITS: dict[str, tuple[Sheets, str]] = {
 
 @pytest.mark.parametrize("case", MISFITS)
 def test_a_later_workbook_that_differs_is_a_fault(tmp_path: Path, case: str) -> None:
-    mapping = parse_mapping("m", text_of(proposed(tmp_path, plain()), "plant.xlsx"))
+    mapping = parse_mapping("m", proposal_text(proposed(tmp_path, plain()), "plant.xlsx"))
     changes, said = MISFITS[case]
     path = written(plain(**changes), tmp_path / "plant.xlsx")
     try:
@@ -356,7 +356,7 @@ def test_what_is_written_is_read(tmp_path: Path) -> None:
     odd = plain()
     odd["streams"][1][1] = 'Öl "roh"\\ №1'
     found = proposed(tmp_path, odd)
-    text = text_of(found, "plant.xlsx")
+    text = proposal_text(found, "plant.xlsx")
     assert parse_mapping("m", text) == found.mapping
     assert found.mapping.names == {'Öl "roh"\\ №1': "Oel_roh_No._1"}, found.mapping.names
 

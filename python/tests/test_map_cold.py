@@ -12,8 +12,8 @@ from libre import DAYS, EVE, Rows, office, written
 
 from plantbal import convert
 from plantbal.workbook.conversion import Conversion
-from plantbal.workbook.mapping.applying import mapping_of
-from plantbal.workbook.mapping.command import text_of
+from plantbal.workbook.mapping.applying import sheet_mapping
+from plantbal.workbook.mapping.command import proposal_text
 from plantbal.workbook.mapping.form import parse_mapping
 from plantbal.workbook.mapping.months import month_of_sheet, pattern_of, short_year_of
 from plantbal.workbook.mapping.proposing import propose
@@ -27,7 +27,7 @@ TONNE = 10**6
 def read(path: Path, answers: dict[str, str]) -> tuple[list[str], Conversion]:
     """A workbook by the mapping that is proposed, with the answers to its questions in it."""
     found = propose(read_workbook(path))
-    text = text_of(found, path)
+    text = proposal_text(found, path)
     for key, answer in answers.items():
         assert f'{key} = "?"' in text, (key, found.open())
         text = text.replace(f'{key} = "?"', f'{key} = "{answer}"')
@@ -223,6 +223,108 @@ def test_read_without_a_question(tmp_path: Path, case: str) -> None:
     assert {("T_1", "16000", "16000000000"), ("T_2", "3000", "3000000000")} <= straps
 
 
+# ---- sheets whose figures were asked about, or lost, before they were read
+
+
+def second(at: int) -> int:
+    """The level of the second tank in mm, at the end of a day."""
+    return 6000 + 10 * (at - 1) if at else 5999
+
+
+FLOWS = ["F 1 [t]", "F2 [t]", "F3 [t]"]
+BY_DAY = [100, 90, 95]
+SHAPES: dict[str, Sheets] = {
+    "levels and flows in one table": {
+        "levels": [[None]],
+        "daily": [
+            ["Date", *FLOWS, "T 1 [mm]", "T 2 [cm]"],
+            [EVE, None, None, None, 4999, "599.9"],
+            *([day, *BY_DAY, 5000 + at, 600 + at] for at, day in enumerate(DAYS)),
+        ],
+    },
+    "levels beside flows, with days of their own": {
+        "levels": [[None]],
+        "daily": [
+            ["Flows", None, None, None, None, "Levels", None, None],
+            ["Date", *FLOWS, None, "Date", "T 1 [mm]", "T 2 [m]"],
+            [None, None, None, None, None, EVE, 4999, Decimal("5.999")],
+            *(
+                [day, *BY_DAY, None, day, 5000 + at, 6 + Decimal(at) / 100]
+                for at, day in enumerate(DAYS)
+            ),
+        ],
+    },
+    "days of the month across, by their numbers, and gauges that are levels": {
+        "levels": [[None]],
+        "daily": [[None]],
+        "Produktion Januar 2024": [
+            ["Tagesmengen [t]"],
+            ["Messstelle", "Bezeichnung", *range(1, 32), "Summe"],
+            *([tag, tag, *[n] * 31, 31 * n] for tag, n in zip(("F 1", "F2", "F3"), BY_DAY)),
+            ["Summe", None, *[285] * 31, 8835],
+        ],
+        "Gauges EOD": [
+            ["Date", "Tank", "Gauge (mm)"],
+            *(
+                [f"{day.month}/{day.day}/{day.year}", tank, second(at) if n else 4999 + at]
+                for at, day in enumerate(ENDS)
+                for n, tank in enumerate(("T 1", "T 2"))
+            ),
+        ],
+    },
+    "a historian's list": {
+        "levels": [
+            ["Tank", "Time Stamp", "Level [mm]"],
+            *(
+                [tank, f"{day:%d-%b-%Y} 00:00:00", second(at) if n else 4999 + at]
+                for at, day in enumerate(ENDS)
+                for n, tank in enumerate(("T 1", "T 2"))
+            ),
+        ],
+        "daily": [[None]],
+        "PI export": [
+            ["Tag Name", "Time Stamp", "Value", "Quality", "Units"],
+            *(
+                [tag, f"{day:%d-%b-%Y} {hour:02}:00:00", f"{value / 24:.4f}", "Good", "t/h"]
+                for tag, value in (("F 1", 108), ("F2", 84), ("F3", 96))
+                for day in DAYS
+                for hour in range(24)
+            ),
+        ],
+    },
+}
+
+
+@pytest.mark.parametrize("case", SHAPES)
+def test_shapes_are_read_without_a_question(tmp_path: Path, case: str) -> None:
+    """Flows and levels, also those of the day before."""
+    asked, found = read(written(small(**SHAPES[case]), tmp_path / "a.xlsx"), {})
+    assert (asked, found.said()) == ([], []), (asked, found.said())
+    wanted = SAME
+    if case == "a historian's list":
+        wanted = {"IN": 3348 * TONNE, "OUT": 2604 * TONNE, "MID": 2976 * TONNE}
+    assert sums(found) == wanted
+    dips = {(row[2], row[3]): int(row[4]) for row in found.session if row[0] == "dip"}
+    days = {f"{day:%Y-%m-%d}": at for at, day in enumerate(ENDS)}
+    first = {("T_1", day): 4999 + at for day, at in days.items()}
+    assert dips == first | {("T_2", day): second(at) for day, at in days.items()}
+
+
+def test_rows_of_figures_without_heads_are_asked_about(tmp_path: Path) -> None:
+    """They were skipped, since no row of theirs has the heads."""
+    sheets = small(Zahlen=[["Werte"], *([day, day + 1, day + 2] for day in range(9))])
+    found = propose(read_workbook(written(sheets, tmp_path / "a.xlsx")))
+    assert any("Zahlen: kind: there are rows of figures in it" in said for said in found.open())
+
+
+@pytest.mark.parametrize("word", ["Bunker", "Estanque", "Silo", "Trémie"])
+def test_words_for_tanks(tmp_path: Path, word: str) -> None:
+    tanks: Rows = [[word, "Error", "Density"], *([f"T {n}", "3 mm", 850] for n in (1, 2))]
+    plural = {"Bunker": "Bunker", "Estanque": "Estanques", "Silo": "Silos", "Trémie": "Trémies"}
+    sheets = small(tanks=[[None]], **{plural[word]: tanks})
+    assert read(written(sheets, tmp_path / "a.xlsx"), {})[0] == []
+
+
 ASKED: dict[str, tuple[Sheets, str]] = {
     "a tank column twice": (
         {"levels": [["Date", "T 1 [mm]", "T 1 [mm]"], *([day, 5000, 5001] for day in DAYS)]},
@@ -250,7 +352,7 @@ def test_a_year_of_two_digits_that_differs_is_a_fault(tmp_path: Path) -> None:
     """A head of December 2023 isn't taken for one of the year that the mapping names."""
     densities: Rows = [["Stream", "Dez 23", "Jan 24", "error"], ["IN", 850, 851, 0.5]]
     path = written(small(Densities=densities), tmp_path / "a.xlsx")
-    text = text_of(propose(read_workbook(path)), path)
+    text = proposal_text(propose(read_workbook(path)), path)
     assert 'year = "head"' in text, text
     mapping = parse_mapping("plant.toml", text.replace('year = "head"', 'year = "2024"'))
     with pytest.raises(Exception, match="'Dez 23' may be of 2023, and the mapping has the year"):
@@ -272,6 +374,6 @@ def test_months_of_names() -> None:
         ("werte [T] juni", True),
         ("Werte t Mai", False),
     ):
-        found = mapping_of(mapping, Sheet("a.xlsx", name, []))
+        found = sheet_mapping(mapping, Sheet("a.xlsx", name, []))
         assert (found is not None) == is_found, name
     assert [short_year_of(text) for text in ("Dez 23", "Dez 2023", "23 Dez")] == ["2023", "", ""]

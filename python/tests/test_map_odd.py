@@ -11,7 +11,7 @@ from libre import DAYS, EVE, Rows, office, written
 
 from plantbal import convert
 from plantbal.workbook.conversion import Conversion
-from plantbal.workbook.mapping.command import text_of
+from plantbal.workbook.mapping.command import proposal_text
 from plantbal.workbook.mapping.form import parse_mapping
 from plantbal.workbook.mapping.proposing import propose
 from plantbal.workbook.sheets import read_workbook
@@ -24,7 +24,7 @@ TONNE = 10**6
 def read(path: Path, answers: dict[str, str], plant: str = "") -> tuple[list[str], Conversion]:
     """A workbook by the mapping that is proposed, with the answers to its questions in it."""
     found = propose(read_workbook(path), plant=plant)
-    text = text_of(found, path)
+    text = proposal_text(found, path)
     for key, answer in answers.items():
         assert f'{key} = "?"' in text, (key, found.open())
         text = text.replace(f'{key} = "?"', f'{key} = "{answer}"')

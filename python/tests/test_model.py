@@ -57,7 +57,7 @@ def test_what_asks_is_not_stored() -> None:
 
 def test_program_says_the_same(program: Path) -> None:
     """Random sessions are refused, closed and edited as the program has it."""
-    assert differing(program, range(150)) == []
+    assert list(differing(program, range(150))) == []
 
 
 def test_rows_of_a_file_are_its_records() -> None:

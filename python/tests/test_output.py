@@ -20,7 +20,7 @@ from hypothesis import strategies as st
 
 from plantbal import InputFault, Output, read_report
 from plantbal.faults import Fault
-from plantbal.report.parsing import fields_of, parse_rows
+from plantbal.report.parsing import csv_fields, parse_rows
 from plantbal.report.frames import whole_numbers
 from plantbal.report.output import NotOk, parse_report
 from plantbal.schema import schema
@@ -322,7 +322,7 @@ def test_any_rows(data: st.DataObject) -> None:
         else:
             fields.append(data.draw(texts))
     read = parse_report(parse_report_line(fields))
-    assert [fields_of(values) for values in read.rows] == [fields]
+    assert [csv_fields(values) for values in read.rows] == [fields]
 
 
 def parse_report_line(fields: list[str]) -> str:

@@ -348,7 +348,6 @@ TOOLS = [
     (("run", DAY, "--out", "OUT.xlsx"), "pandas", "there is no pandas: install python3-pandas"),
     (("check", OUTPUT), "pandas", "there is no pandas: install python3-pandas"),
     (("uncertainty", OUTPUT), "pandas", "there is no pandas: install python3-pandas"),
-    (("page", OUTPUT), "pandas", "there is no pandas: install python3-pandas"),
     (("convert", "--locale", "de", "x.xlsx"), "babel", "there is no babel: install python3-babel"),
     (("report", OUTPUT, "--out", "OUT.xlsx"), "openpyxl", "no openpyxl: install python3-openpyxl"),
     (("template", "refinery", "OUT.xlsx"), "openpyxl", "no openpyxl: install python3-openpyxl"),

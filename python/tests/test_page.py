@@ -18,12 +18,14 @@ from plantbal.model.ledger import Ledger
 from plantbal.page.account import account_of
 from plantbal.page.command import page
 from plantbal.page.head import program_text
-from plantbal.page.render import certificate, soft, worded
+from plantbal.page.render import soft
+from plantbal.page.spoken import SpokenPage
 from plantbal.page.statement import StreamLine, Worth
 from plantbal.page.verdict import plus_minus
 from plantbal.report.blocks import Values
 from plantbal.report.parsing import parse_rows
 from plantbal.runs import run
+from plantbal.sentence import ENGLISH
 
 # The machine may be busy.
 QUICK = settings(deadline=None, max_examples=60)
@@ -152,10 +154,10 @@ def test_a_long_certificate_is_cut() -> None:
     line = StreamLine(
         "A", "env", "U", "redundant", shape="cut", side="U", parts=" ".join(["+AAAA"] * 2000)
     )
-    made = str(certificate(line))
+    made = str(SpokenPage(ENGLISH).certificate(line))
     assert made.count("<span>+AAAA</span>") == 166 and made.endswith(" … and 1,834 more")
     line = replace(line, parts="+" + "A" * 32)
-    assert str(certificate(line)).count("more") == 0
+    assert str(SpokenPage(ENGLISH).certificate(line)).count("more") == 0
 
 
 def test_version_of_the_program(tmp_path: Path) -> None:
@@ -221,7 +223,7 @@ def test_the_verdict_comes_first() -> None:
 
 def test_words() -> None:
     """No day is broken at its hyphens, what is to be typed is code, and the rest is a text."""
-    assert worded("on 2024-05-02: write `late,` <") == (
+    assert SpokenPage(ENGLISH).worded("on 2024-05-02: write `late,` <") == (
         'on <span class="day">2024-05-02</span>: write <code>late,</code> &lt;'
     )
 
@@ -571,3 +573,17 @@ def test_large_plants(say: Desk, program: Path, tmp_path: Path, count: int) -> N
     assert len(made.encode()) < size
     assert 'data-near="' in made and '<svg class="plant"' in made
     read(made)
+
+
+def test_no_statement_of_a_report_that_is_wrong(say: Desk, tmp_path: Path) -> None:
+    """A flow that was changed unbalances a node: whoever signs isn't shown it as booked."""
+    text = text_of(example("refinery_day.out.csv"))
+    row = next(row for row in text.split("\n") if row.startswith("stream,"))
+    fields = row.split(",")
+    fields[7] = str(int(fields[7]) + 1_000_000)
+    forged, out = tmp_path / "forged.csv", tmp_path / "page.html"
+    forged.write_text(text.replace(row, ",".join(fields)), encoding="ascii")
+    for words in ((), ("--session", example("refinery_day.csv"))):
+        said = say("page", forged, *words, "--out", out)
+        assert said.status == 1 and "fails the test balance (3) at env" in said.err, said
+        assert "no statement is made of it" in said.err and not out.exists()

@@ -29,7 +29,7 @@ from plantbal.book.journal import (
     Kept,
     JournalLine,
     chained,
-    csv_text,
+    journal_text,
     read_journal,
     read_line,
 )
@@ -279,7 +279,7 @@ def _anew(carried: Carried, number: str, **values: object) -> None:
     names = {name for name in line.files if name in carried["files"]}
     kept = {name: Kept.of(carried["files"][name].encode()) for name in names}
     line = replace(line, files={**line.files, **kept})
-    text = csv_text([line.cells]).rstrip("\n")
+    text = journal_text([line.cells]).rstrip("\n")
     line = replace(line, digest=hashlib.sha256(text.encode()).hexdigest())
     carried["journal"][number] = line.text
 

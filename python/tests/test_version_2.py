@@ -19,7 +19,7 @@ from test_program import QUICK, judged, refusals
 
 from plantbal import Session, convert
 from plantbal.book import beginning
-from plantbal.audit.held import Pair, answers_of, refused_differ
+from plantbal.audit.held import Pair, answered_rows, refused_differ
 from plantbal.faults import Refusal
 from plantbal.lint import lint_session
 from plantbal.model.ledger import Ledger
@@ -127,7 +127,7 @@ def test_each_report_has_what_is_in_service() -> None:
         ["env", "MANIFOLD", "TK1"],
         ["env", "MANIFOLD", "TK1", "TK2"],
     ]
-    answers = answers_of(WRITTEN.encode())
+    answers = answered_rows(WRITTEN.encode())
     for pair in map(Pair, studies_of(ledger), answers):
         assert not list(pair.differ())
 
@@ -180,7 +180,7 @@ def test_random_services(
     """Nodes, streams and measured values are those that the program takes, and so are refusals."""
     data = session_of(spans, facts, period)
     output = call(["run", "--sweeps", "0"], data, program=program)[1]
-    ledger, answers = Ledger("s", data), answers_of(output)
+    ledger, answers = Ledger("s", data), answered_rows(output)
     assert not list(refused_differ(output, ledger))
     for pair in map(Pair, studies_of(ledger), answers):
         assert not list(pair.differ())

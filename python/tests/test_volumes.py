@@ -2,12 +2,14 @@
 
 from __future__ import annotations
 
+import csv
 from decimal import Decimal
 
 import mpmath
 import pytest
 
 from plantbal.faults import Fault
+from plantbal.volumes.__main__ import CHECKS, check_row, main
 from plantbal.volumes.batch import batch
 from plantbal.volumes.factor import FactorTable, Rounding, five_figures, petroleum
 from plantbal.volumes.groups import DENSITIES, RANGES, Group
@@ -188,6 +190,54 @@ def test_densities_at_15_by_halving() -> None:
                         found = at_standard(group, D(observed), D(temperature), by).density
                         again = table_53(group, observed, temperature, glass)
                         assert str(found) == again, (group, observed, temperature, by)
+
+
+def test_the_check_table(capsys: pytest.CaptureFixture[str]) -> None:
+    """What a plant compares with its copy, each value computed a second time to its last digit."""
+    assert main([]) == 0
+    rows = list(csv.reader(capsys.readouterr().out.splitlines()))[1:]
+    assert len(rows) == len(CHECKS)
+    of_letter = {"A": Group.CRUDE, "B": Group.PRODUCTS, "D": Group.LUBRICANTS}
+    with mpmath.workdps(40):
+        for table, figure, temperature, factor, hydrometer, densitometer in rows:
+            group = of_letter.get(table[2])
+            if group is None:
+                alpha = half_up(mpmath.mpf(figure), 7)
+                again = half_up(factor_of(alpha, temperature), 5)
+                assert abs(mpmath.mpf(factor) - again) < 1e-9, (table, figure)
+            elif table.startswith("54"):
+                assert factor == table_54(group, figure, temperature), (table, figure, temperature)
+            else:
+                found = [table_53(group, figure, temperature, glass) for glass in (True, False)]
+                assert [hydrometer, densitometer] == found, (table, figure, temperature)
+    for group, density, temperature, wanted in WORKED:
+        table = f"54{group.letter}"
+        assert check_row(table, density, temperature) == (
+            table,
+            density,
+            temperature,
+            wanted,
+            "",
+            "",
+        )
+
+
+@pytest.mark.parametrize(
+    ("words", "said"),
+    [
+        (["54E", "740", "25"], "there is no table 54E"),
+        (["53C", "740", "25"], "there is no table 53C"),
+        (["54B", "7400", "25"], "no liquid of 7400 kg/m3"),
+        (["54B", "x", "25"], "aren't two figures"),
+        (["54B", "nan", "25"], "aren't two figures"),
+        (["54B", "740"], ""),
+    ],
+)
+def test_words_of_the_check_table(
+    words: list[str], said: str, capsys: pytest.CaptureFixture[str]
+) -> None:
+    assert main(words) == 2
+    assert said in capsys.readouterr().err
 
 
 @pytest.mark.parametrize(("group", "density", "temperature", "place"), FACTORS)

@@ -13,7 +13,7 @@ from conftest import Desk, example
 from plantbal import convert
 from plantbal.balance import Flow, Known, Measured, Problem, solve
 from plantbal.balance.choose import Aim, best_for, cheapest, redundant, within
-from plantbal.balance.worth import Instrument, PeriodState, changed, deviation_of
+from plantbal.balance.worth import Instrument, PeriodState, deviation_of, known_after
 
 OFFERS = [
     Instrument("RGH_CONC", "", 38.0, 30),
@@ -42,7 +42,7 @@ def test_a_meter_more_is_as_if_it_had_been_read(state: PeriodState) -> None:
     ]
     grades = {key: grade for key, grade in problem.grades.items() if key[0] != "CLN_TAIL"}
     read = Known(solve(Problem(flows, ["cu"], grades)))
-    then = changed(state, [OFFERS[0]], [Instrument("CLN_TAIL", "cu")])
+    then = known_after(state, [OFFERS[0]], [Instrument("CLN_TAIL", "cu")])
     for flow in flows:
         for component in ("", "cu"):
             one, other = (deviation_of(each, flow.name, component) for each in (then, read))
@@ -58,10 +58,10 @@ def test_without_assays_it_is_that_of_mass() -> None:
     ]
     state = PeriodState(Known(solve(Problem(flows))))
     assert deviation_of(state.with_(state.here), "C") == pytest.approx(5)
-    more = changed(state, [Instrument("C", "", 12)], [])
+    more = known_after(state, [Instrument("C", "", 12)], [])
     assert deviation_of(more, "A") == pytest.approx(3 * (1 - 9 / 169) ** 0.5)
-    assert deviation_of(changed(state, [], [Instrument("A")]), "C") == float("inf")
-    twice = changed(state, [Instrument("A", "", 3)], [])  # a second meter beside the first
+    assert deviation_of(known_after(state, [], [Instrument("A")]), "C") == float("inf")
+    twice = known_after(state, [Instrument("A", "", 3)], [])  # a second meter beside the first
     assert deviation_of(twice, "A") == pytest.approx(3 / 2**0.5)
 
 

@@ -23,6 +23,7 @@ from plantbal.accounts.owned import Owned, owned
 from plantbal.accounts.sheet import Accounts
 from plantbal.accounts.spread import Across, Sum, deviations
 from plantbal.accounts.stock import Opened, Stock, rolled
+from plantbal.sentence import Phrase, Sentence
 
 
 class Level(Enum):
@@ -280,13 +281,13 @@ def _by(level: Level, entries: Iterable[Entry], key: Callable[[Entry], str]) -> 
     return [_Draft(level, name, some) for name, some in sorted(found.items())]
 
 
-def summed(some: Iterable[Across]) -> Across:
+def sum_across(some: Iterable[Across]) -> Across:
     """Return the sum of sums over periods."""
-    found: dict[int, Sum] = {}
+    found: dict[int, list[Sum]] = defaultdict(list)
     for each in some:
         for at, part in each.items():
-            found[at] = found.get(at, Sum()).plus(part)
-    return found
+            found[at].append(part)
+    return {at: Sum.total(parts) for at, parts in found.items()}
 
 
 @dataclass
@@ -311,7 +312,7 @@ class _Draft:
 
     def sums(self, month: Month, at: int) -> list[Across]:
         """Return the sums whose ± are wanted: of each line, and of what is unaccounted."""
-        lines = [summed(entry.sums for entry in some) for some in self._lines.values()]
+        lines = [sum_across(entry.sums for entry in some) for some in self._lines.values()]
         return [*lines, {at: self._left(month)[1]}]
 
     def table(self, month: Month, found: Iterable[float | None]) -> AccountTable:
@@ -390,22 +391,25 @@ def _said(
         yield "its report is rejected: some reading is wrong, and the account with it"
     untold = dict.fromkeys(entry.name for entry in entries if not entry.account.is_told)
     if untold and len(untold) < len({entry.name for entry in entries}):
-        yield f"in no account: {', '.join(untold)}"
+        yield Sentence("in no account: {names}", names=", ".join(untold))
     for stock in stocks:
         if stock.opened in (Opened.NOTHING, Opened.CLOSING_DIP):
-            yield f"{stock.tank}: its opening stock rests on {stock.opened.value}"
+            opened = Phrase(stock.opened.value)
+            form = "{tank}: its opening stock rests on {opened}"
+            yield Sentence(form, tank=stock.tank, opened=opened)
         if stock.basis is Basis.UNKNOWN and stock.opened is not Opened.NOTHING:
-            yield f"{stock.tank}: nothing determines what it gained"
+            yield Sentence("{tank}: nothing determines what it gained", tank=stock.tank)
         if stock.closing < 0:
-            yield f"{stock.tank}: its closing stock is below 0"
+            yield Sentence("{tank}: its closing stock is below 0", tank=stock.tank)
     for flow in month.flows.values():
         if flow.basis is Basis.UNKNOWN and any(entry.name == flow.name for entry in entries):
-            yield f"{flow.name}: nothing determines its flow"
+            yield Sentence("{name}: nothing determines its flow", name=flow.name)
         elif flow.grams < 0 and any(entry.name == flow.name for entry in entries):
-            yield f"{flow.name}: its flow is below 0, against its direction"
+            yield Sentence("{name}: its flow is below 0, against its direction", name=flow.name)
     for name, some in owners.items():
         closing = sum(entry.grams for entry in some if entry.line is AccountLine.CLOSING)
         if not name:
             yield "some amounts have no owner: see the account of nobody"
         elif closing < 0:
-            yield f"{name}: more went out than there was: the closing stock is below 0"
+            form = "{name}: more went out than there was: the closing stock is below 0"
+            yield Sentence(form, name=name)

@@ -67,7 +67,7 @@ class Item:
 State = Mapping[Item, int]
 
 
-def state_of(account: MonthAccount) -> State:
+def handed_over(account: MonthAccount) -> State:
     """Return what a month hands over, in grams."""
     found = {}
     for flow in account.month.flows.values():
@@ -125,7 +125,7 @@ class PostingChange:
         return self.after - self.before
 
 
-def changes_of(before: State, after: State) -> list[PostingChange]:
+def posting_changes(before: State, after: State) -> list[PostingChange]:
     """Return how two states differ, flows first."""
     items = dict.fromkeys([*after, *before])
     found = [PostingChange(item, before.get(item, 0), after.get(item, 0)) for item in items]

@@ -19,7 +19,7 @@ from plantbal.accounts.sheet import (
     SalesUnit,
     SplitRule,
 )
-from plantbal.book.meters import decimal
+from plantbal.book.meters import exact_decimal
 from plantbal.causes import Case, CausedFault
 from plantbal.workbook.causes import SheetCause
 from plantbal.workbook.cells import Reader
@@ -289,7 +289,7 @@ def accounts_text(accounts: Accounts) -> str:
         group = "" if row.group == NO_ACCOUNT else row.group
         density = ""
         if row.unit.density is not None:
-            density = decimal(row.unit.density / DENSITIES["kg/m3"]) + " kg/m3"
+            density = exact_decimal(row.unit.density / DENSITIES["kg/m3"]) + " kg/m3"
         kind = row.kind.value if row.kind is not None else ""
         writer.writerow((row.name, kind, product, group, row.owner, row.unit.label, density))
     return out.getvalue()

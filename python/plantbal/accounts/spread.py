@@ -19,7 +19,7 @@ opening stock and a gain, and why the errors of months don't pile up in a stock.
 from __future__ import annotations
 
 from collections import defaultdict
-from collections.abc import Hashable, Mapping, Sequence
+from collections.abc import Hashable, Iterable, Mapping, Sequence
 from dataclasses import dataclass, field
 from functools import cached_property
 from typing import Any
@@ -63,6 +63,21 @@ class Sum:
         )
         flows, values, dips, ends = (_added(one, two, times) for one, two in parts)
         return Sum(flows, values, dips, ends, self.is_unknown or other.is_unknown)
+
+    @staticmethod
+    def total(parts: Iterable[Sum]) -> Sum:
+        """Return the sum of some: what each adds goes into one table, however many there are."""
+        found: tuple[dict[str, float], ...] = tuple(defaultdict(float) for _ in range(4))
+        is_unknown = False
+        for part in parts:
+            for into, terms in zip(found, (part.flows, part.values, part.dips, part.ends)):
+                for name, number in terms.items():
+                    into[name] += number
+            is_unknown = is_unknown or part.is_unknown
+        flows, values, dips, ends = (
+            {name: number for name, number in each.items() if number} for each in found
+        )
+        return Sum(flows, values, dips, ends, is_unknown)
 
 
 def _added(one: Terms, other: Terms, times: float) -> Terms:

@@ -18,6 +18,7 @@ from plantbal.accounts.account import (
 from plantbal.accounts.entries import AccountLine
 from plantbal.accounts.sheet import NOBODY
 from plantbal.amounts import tonnes_of, tonnes_text
+from plantbal.sentence import Figure
 
 HEADS = ("account", "line", "t", "± t", "sales", "unit", "basis")
 STOCK_HEADS = (
@@ -30,12 +31,12 @@ def sales_text(amount: Fraction | None, places: int = 3) -> str:
     if amount is None:
         return ""
     number = Decimal(amount.numerator) / Decimal(amount.denominator)
-    return f"{number.quantize(Decimal(1).scaleb(-places), rounding=ROUND_HALF_EVEN):,f}"
+    return Figure(f"{number.quantize(Decimal(1).scaleb(-places), rounding=ROUND_HALF_EVEN):,f}")
 
 
 def deviation_text(grams: float | None) -> str:
     """Return a standard deviation in tonnes; nothing if it isn't known."""
-    return "" if grams is None else f"{grams / 1e6:,.3f}"
+    return "" if grams is None else Figure(f"{grams / 1e6:,.3f}")
 
 
 def basis_text(amount: Amount) -> str:
@@ -43,11 +44,11 @@ def basis_text(amount: Amount) -> str:
     return amount.basis.value
 
 
-def percent_text(left: Unaccounted) -> str:
+def unaccounted_percent(left: Unaccounted) -> str:
     """Return what is unaccounted in percent of what came in."""
     if left.percent is None:
         return ""
-    return f"{float(left.percent):+.3f} %"
+    return Figure(f"{float(left.percent):+.3f} %")
 
 
 def title_of(table: AccountTable) -> str:
@@ -85,7 +86,7 @@ class ShownLine:
     is_stock: bool = False
 
 
-def shown(table: AccountTable) -> Iterator[ShownLine]:
+def shown_lines(table: AccountTable) -> Iterator[ShownLine]:
     """Give the lines of an account: those that add up, their total, and what is beside."""
     for line in table.moving:
         yield ShownLine(line.value, table.lines[line], is_stock=line is AccountLine.OPENING)
@@ -97,7 +98,7 @@ def shown(table: AccountTable) -> Iterator[ShownLine]:
     is_there = left is not None and bool(left.amount.grams or left.amount.deviation)
     if left is not None and is_there and table.level in (Level.PLANT, Level.GROUP):
         word = "unaccounted loss" if left.amount.grams >= 0 else "unaccounted gain"
-        yield ShownLine(word, left.amount, is_beside=True, percent=percent_text(left))
+        yield ShownLine(word, left.amount, is_beside=True, percent=unaccounted_percent(left))
 
 
 def _turned(amount: Amount) -> Amount:
@@ -105,9 +106,9 @@ def _turned(amount: Amount) -> Amount:
     return Amount(-amount.grams, amount.deviation, amount.basis, sales)
 
 
-def rows_of(table: AccountTable) -> Iterator[tuple[str, ...]]:
+def account_rows(table: AccountTable) -> Iterator[tuple[str, ...]]:
     """Give an account as rows of texts, in tonnes with all digits."""
-    for each in shown(table):
+    for each in shown_lines(table):
         basis = f"by the readings, {each.percent}" if each.percent else basis_text(each.amount)
         yield (
             title_of(table),
@@ -136,14 +137,14 @@ def stock_row(tank: TankAmounts) -> tuple[str, ...]:
     )
 
 
-def text_of(account: MonthAccount, tables: Iterable[AccountTable]) -> str:
+def account_tables_text(account: MonthAccount, tables: Iterable[AccountTable]) -> str:
     """Return accounts as lines of text."""
     month = account.month
     state = "closed" if month.is_closed else "open"
     lines = [f"{month.name}, {month.first} to {month.last}, {state}", ""]
     for table in tables:
         rows = [("", "t", "± t", table.unit, "")]
-        for each in shown(table):
+        for each in shown_lines(table):
             last = f"by the readings, {each.percent}" if each.percent else basis_text(each.amount)
             amount = each.amount
             rows.append(

@@ -107,8 +107,8 @@ def unusual(now: MonthAccount, before: Sequence[MonthAccount]) -> Iterator[Unusu
 
 def _half(some: Sequence[int], deviation: float) -> float:
     """Return half the range in which one more figure like these lies."""
-    from scipy.stats import t
+    from scipy.special import stdtrit
 
     count = len(some)
-    factor = float(t.ppf((1 + _SURE) / 2, count - 1))
+    factor = float(stdtrit(count - 1, (1 + _SURE) / 2))
     return factor * max(stdev(some), deviation) * sqrt(1 + 1 / count)

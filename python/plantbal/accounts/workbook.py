@@ -15,7 +15,7 @@ from typing import Any
 from plantbal.accounts.account import AccountTable, Level, MonthAccount
 from plantbal.accounts.entries import AccountLine
 from plantbal.accounts.posting import POSTING_HEADS, PostingChange, postings_of
-from plantbal.accounts.tables import STOCK_HEADS, basis_text, percent_text, title_of
+from plantbal.accounts.tables import STOCK_HEADS, basis_text, title_of, unaccounted_percent
 from plantbal.amounts import tonnes_of
 from plantbal.faults import ToolMissing
 from plantbal.files import replacing
@@ -26,7 +26,9 @@ _ACCOUNT = ("account", "line", "t", "± t", "sales unit", "unit", "basis", "chec
 _ENTRIES = ("row", "account", "line", "stream or tank", "product", "group", "t", "sales unit")
 
 
-def write_workbook(path: str | Path, account: MonthAccount, tables: Sequence[AccountTable]) -> None:
+def write_accounts_workbook(
+    path: str | Path, account: MonthAccount, tables: Sequence[AccountTable]
+) -> None:
     """Write accounts as a workbook, whole or not at all.
 
     Parameters
@@ -141,7 +143,7 @@ def _put_table(sheet: Any, entries: Any, table: AccountTable, count: int) -> Non
         _put_entries(entries, table, line, row)
     left = table.unaccounted
     if left is not None:
-        word = f"by the readings, {percent_text(left)} of what came in"
+        word = f"by the readings, {unaccounted_percent(left)} of what came in"
         figures = tonnes_of(left.amount.grams), _decimal(left.amount.deviation)
         _row(sheet, sheet.max_row + 1, (title, "unaccounted", *figures, None, "", word))
 

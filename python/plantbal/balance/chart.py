@@ -7,7 +7,7 @@ from collections.abc import Sequence
 from pathlib import Path
 from typing import Any
 
-from plantbal.balance.grades import Grade, Grades, unit_of
+from plantbal.balance.grades import Grade, Grades, unit_of_grades
 from plantbal.balance.worth import SpreadChange
 from plantbal.report.chart import BAND, DARK, INK, begin_drawing, save
 
@@ -15,7 +15,7 @@ from plantbal.report.chart import BAND, DARK, INK, begin_drawing, save
 _ROW, _AROUND, _WIDE = 0.26, 1.1, 9.0
 
 
-def write_chart(grades: Grades, out: Path, form: str) -> None:
+def write_grades_chart(grades: Grades, out: Path, form: str) -> None:
     """Write the chart: a panel a component, a row a stream.
 
     Parameters
@@ -50,7 +50,7 @@ def write_chart(grades: Grades, out: Path, form: str) -> None:
 
 def _panel(axes: Any, component: str, rows: list[Grade]) -> None:
     """Draw the grades of a component, on a logarithmic scale: tailings stand beside concentrates."""
-    unit, scale = unit_of(rows)
+    unit, scale = unit_of_grades(rows)
     names = [f"gain of {row.stream}" if row.is_gain else row.stream for row in rows]
     positive = [row.value * scale for row in rows if row.value > 0]
     positive += [row.assay * scale for row in rows if row.assay > 0]

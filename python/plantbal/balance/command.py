@@ -12,10 +12,17 @@ from pathlib import Path
 from plantbal.balance.certify import pulls_of, session_of
 from plantbal.balance.known import Class, Known
 from plantbal.balance.pulps import with_water
-from plantbal.balance.reading import GRAMS, AskedPeriod, asked_of
+from plantbal.balance.reading import GRAMS, AskedPeriod, asked_period
 from plantbal.balance.solve import solve
 from plantbal.balance.stock import Held, held_of, lines_of_stocks, stocks_of, unknown_stocks
-from plantbal.balance.table import SOLIDS, BalanceLine, FigureUnit, lines_of, recoveries_of, said_of
+from plantbal.balance.table import (
+    SOLIDS,
+    BalanceLine,
+    FigureUnit,
+    table_lines,
+    recoveries_of,
+    evidence_said,
+)
 from plantbal.commands.options import add_program
 from plantbal.faults import Fault, read_bytes, WordsFault
 from plantbal.files import replacing, write_text
@@ -25,7 +32,7 @@ from plantbal.report.chart import ENDINGS
 from plantbal.report.output import Output
 from plantbal.runs import check, run as run_program
 from plantbal.statuses import looks
-from plantbal.study.advice import plant_of
+from plantbal.study.advice import plant_session
 
 HELP = """
 SESSION is a session with assays. The flows of PERIOD and the grades in them are reconciled at once:
@@ -35,7 +42,7 @@ the assays help to determine the flows, as the flows help to determine the grade
 There is a line for each flow, in tonnes, and below it one for each grade, in percent: what was
 measured, what fits best, its standard deviation from the errors of all meters and assays, and the
 adjustment in standard deviations of the measurement. A flow that only assays determine says by
-which balances. At the end come the recoveries.
+which balances. The recoveries come at the end.
 
 What assays say of a flow is then handed to the program as a measurement, and the program
 reconciles the mass once more and certifies it: these flows balance to the gram, within proved
@@ -85,11 +92,11 @@ def add_arguments(parser: argparse.ArgumentParser) -> None:
         metavar="STREAM",
         action="append",
         default=[],
-        help="recoveries are parts of what this stream carries",
+        help="recoveries are fractions of what this stream carries",
     )
     pulps = "balance water too: a workbook with a sheet pulps, or that sheet"
     parser.add_argument("--pulps", metavar="WORKBOOK", help=pulps)
-    form = "whose numbers the sheet has, such as de or en_GB"
+    form = "how numbers in the sheet are written, such as de or en_GB"
     parser.add_argument("--locale", metavar="NAME", default="", help=form)
     held = (
         "what a tank held before the period, with its error: STOCK=12000t,1%% or STOCK:cu=26%%,1%%"
@@ -109,8 +116,8 @@ def add_arguments(parser: argparse.ArgumentParser) -> None:
 def _asked(options: argparse.Namespace) -> AskedPeriod:
     """Return what is to be balanced."""
     source, data = read_bytes(options.session, SESSION_BYTES)
-    plant_of(source, data)  # says what is wrong with the session
-    asked = asked_of(
+    plant_session(source, data)  # says what is wrong with the session
+    asked = asked_period(
         data,
         options.period,
         options.component,
@@ -135,7 +142,7 @@ def run(options: argparse.Namespace) -> int:
     asked = _asked(options)
     found = solve(asked.problem)
     known = Known(found)
-    lines = list(lines_of(known))
+    lines = list(table_lines(known))
     held = held_of(options.held, known)
     stocks = list(lines_of_stocks(stocks_of(known, held)))
     given = session_of(asked.problem, pulls_of(found, known), options.period)
@@ -150,7 +157,7 @@ def run(options: argparse.Namespace) -> int:
     if options.chart:
         _chart(options.chart, known)
     why_not = certificate.why_not
-    notes = list(notes_of(asked, known, lines, held))
+    notes = list(balance_notes(asked, known, lines, held))
     for note in [*notes, *([f"not certified: {why_not}"] if why_not else [])]:
         print(f"{options.prog}: {note}", file=sys.stderr)
     return looks(why_not)
@@ -158,17 +165,17 @@ def run(options: argparse.Namespace) -> int:
 
 def _chart(path: str, known: Known) -> None:
     """Draw the grades."""
-    from plantbal.balance.chart import write_chart
+    from plantbal.balance.chart import write_grades_chart
     from plantbal.balance.grades import of_known
 
     form = Path(path).suffix[1:].lower()
     if form not in ENDINGS:
         raise WordsFault(f"{path} ends with {form!r}", text=path, remedy="use .svg, .png or .pdf")
     with replacing(path) as made:
-        write_chart(of_known(known), made, form)
+        write_grades_chart(of_known(known), made, form)
 
 
-def notes_of(
+def balance_notes(
     asked: AskedPeriod, known: Known, lines: Iterable[BalanceLine], held: Held
 ) -> Iterable[str]:
     """Yield what is to be said of a balance beside its figures."""
@@ -186,7 +193,7 @@ def notes_of(
         yield f"nothing determines the flow of {', '.join(loose)}: add a meter or an assay there"
     if unknown := unknown_stocks(known, held):
         yield (
-            f"what was held before the period isn't said (--held), so the grade of the stock isn't"
+            f"what was held before the period isn't given (--held), so the grade of the stock isn't"
             f" known: {', '.join(unknown)}"
         )
 
@@ -270,7 +277,7 @@ def _text(known: Known, lines: list[BalanceLine], feeds: Sequence[str]) -> Itera
         )
         left = f"{'  ' * (not is_own)}{name}"
         unit = "%" if is_part else f"t {line.component}" if line.stream in alone else "t"
-        why = f": {said_of(line.evidence)}" if line.evidence else ""
+        why = f": {evidence_said(line.evidence)}" if line.evidence else ""
         yield (
             f"{left:{wide}}  {unit:8}{shown[0]:>16}{shown[1]:>16}{shown[2]:>12}{pull:>8}"
             f"  {line.kind.value}{why}"

@@ -12,7 +12,7 @@ from dataclasses import dataclass, field
 
 from plantbal.balance.known import Class, Known
 from plantbal.balance.problem import Flow, Measured, Problem
-from plantbal.balance.reading import MILLION, flows_of, grade_of
+from plantbal.balance.reading import MILLION, grade_of, measured_flows
 from plantbal.balance.solve import solve
 from plantbal.balance.table import Recovery, recoveries_of
 from plantbal.faults import Fault
@@ -89,7 +89,7 @@ class Grades:
         return next((each for each in own if each.stream == stream), None)
 
 
-def unit_of(grades: Iterable[Grade]) -> tuple[str, float]:
+def unit_of_grades(grades: Iterable[Grade]) -> tuple[str, float]:
     """Return the unit in which grades are shown, and its number in the whole."""
     most = max((abs(each.value) for each in grades if each.value == each.value), default=0.0)
     return ("ppm", MILLION) if most < _SMALL else ("%", 100.0)
@@ -105,7 +105,7 @@ def grades_of(mass: Block, assays: Mapping[tuple[str, str], Measured]) -> Grades
     assays : mapping of (str, str) to Measured
         The assays of the period, as fractions, by stream and component.
     """
-    flows = flows_of(mass)
+    flows = measured_flows(mass)
     names = {flow.name for flow in flows}
     found = Grades()
     known = {key: grade for key, grade in assays.items() if key[0] in names}

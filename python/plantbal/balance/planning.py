@@ -11,10 +11,16 @@ from pathlib import Path
 from plantbal.balance.causes import BalanceCause
 from plantbal.balance.choose import Choice, best_for, cheapest, redundant, within
 from plantbal.balance.known import Known
-from plantbal.balance.reading import GRAMS, MILLION, asked_of
+from plantbal.balance.reading import GRAMS, MILLION, asked_period
 from plantbal.balance.solve import solve
-from plantbal.balance.table import lines_of
-from plantbal.balance.worth import Instrument, PeriodState, SpreadChange, changed, changes_of
+from plantbal.balance.table import table_lines
+from plantbal.balance.worth import (
+    Instrument,
+    PeriodState,
+    SpreadChange,
+    known_after,
+    spread_changes,
+)
 from plantbal.faults import Fault, InputFault, Place, WordsFault
 from plantbal.files import replacing, write_text
 from plantbal.report.chart import ENDINGS
@@ -25,9 +31,9 @@ from plantbal.workbook.sheets import Cell, Sheet, read_workbook
 _HEADS = ("stream", "component", "cost", "error")
 
 
-def state_of(data: bytes, period: str, source: str, program: str | None) -> PeriodState:
+def period_state(data: bytes, period: str, source: str, program: str | None) -> PeriodState:
     """Return the flows and grades of a period, on which other measurements are put."""
-    asked = asked_of(data, period, source=source, program=program, mass_alone=True)
+    asked = asked_period(data, period, source=source, program=program, mass_alone=True)
     return PeriodState(Known(solve(asked.problem)))
 
 
@@ -113,7 +119,7 @@ def _deviation(
     return found
 
 
-def named(text: str, state: PeriodState) -> Instrument:
+def instrument_named(text: str, state: PeriodState) -> Instrument:
     """Return what STREAM or STREAM:COMPONENT=ERROR names, with its error if there is one."""
     name, _, error = text.partition("=")
     stream, _, component = name.partition(":")
@@ -153,11 +159,11 @@ def add_arguments(parser: argparse.ArgumentParser) -> None:
 
 def run(options: argparse.Namespace, source: str, data: bytes) -> int:
     """Write what is bought, and the ± before and after."""
-    state = state_of(data, options.period, source, options.program)
+    state = period_state(data, options.period, source, options.program)
     offers = offers_of(options.costs, state, options.locale) if options.costs else []
     lines: list[str] = []
     add = [_with_error(text, state) for text in options.add]
-    lose = [named(text, state) for text in options.lose]
+    lose = [instrument_named(text, state) for text in options.lose]
     if options.want or options.redundant or options.budget is not None:
         if add or lose:
             raise WordsFault(
@@ -166,8 +172,8 @@ def run(options: argparse.Namespace, source: str, data: bytes) -> int:
         choice, said = _bought(options, state, offers)
         lines += list(_choice_lines(choice, said))
         add = list(choice.instruments)
-    before, after = state.with_(state.here), changed(state, add, lose)
-    changes = changes_of(state, before, after)
+    before, after = state.with_(state.here), known_after(state, add, lose)
+    changes = spread_changes(state, before, after)
     if options.form == "csv":
         lines = list(_csv(changes))
     else:
@@ -175,14 +181,14 @@ def run(options: argparse.Namespace, source: str, data: bytes) -> int:
     write_text("-", "".join(f"{line}\n" for line in lines))
     if options.draw:
         _draw(options.draw, changes)
-    if any(line.kind.value == "unobservable" for line in lines_of(after) if not line.component):
+    if any(line.kind.value == "unobservable" for line in table_lines(after) if not line.component):
         print(f"{options.prog}: some flows stay unknown: they have no ±", file=sys.stderr)
     return ExitStatus.GOOD
 
 
 def _with_error(text: str, state: PeriodState) -> Instrument:
     """Return what is to be added."""
-    found = named(text, state)
+    found = instrument_named(text, state)
     if not found.deviation:
         remedy = f"give it, such as {text}=2%"
         raise Fault(f"{found.said} has no error", text=text, remedy=remedy)
@@ -206,7 +212,7 @@ def _bought(
         aim = redundant(state, streams)
         return cheapest(offers, aim, options.within), "every flow is known if any one fails"
     if options.budget is not None:
-        wanted = [named(text, state).stream for text in options.of] or streams
+        wanted = [instrument_named(text, state).stream for text in options.of] or streams
         choice, ratio = best_for(state, offers, wanted, options.budget)
         return choice, f"every ± asked for is at most {ratio:.3f} times that with all offers"
     wants = {}

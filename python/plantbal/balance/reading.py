@@ -38,7 +38,7 @@ class AskedPeriod:
     left_out: tuple[str, ...] = ()
 
 
-def asked_of(
+def asked_period(
     data: bytes,
     period: str,
     components: Collection[str] = (),
@@ -68,7 +68,7 @@ def asked_of(
         Whether a period without assays is one of flows alone.
     """
     mass = _mass_of(data, period, source, program)
-    flows = flows_of(mass)
+    flows = measured_flows(mass)
     names = {flow.name for flow in flows}
     grades: dict[tuple[str, str], Measured] = {}
     left_out = []
@@ -99,7 +99,7 @@ def asked_of(
     return AskedPeriod(period, problem, mass, tuple(left_out))
 
 
-def flows_of(mass: Block) -> list[Flow]:
+def measured_flows(mass: Block) -> list[Flow]:
     """Return the streams of a round of a report, with what was measured of them."""
     return [
         Flow(

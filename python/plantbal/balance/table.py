@@ -60,7 +60,7 @@ class BalanceLine:
         return found | {"kind": self.kind.value, "unit": self.unit.value}
 
 
-def lines_of(known: Known) -> Iterator[BalanceLine]:
+def table_lines(known: Known) -> Iterator[BalanceLine]:
     """Yield the flows in the order of the streams, each followed by its grades.
 
     A component beside the mass, such as water, has two lines: the part that is solids, and tonnes.
@@ -192,7 +192,7 @@ def recoveries_of(known: Known, feeds: Sequence[str] = ()) -> Iterator[Recovery]
             yield Recovery(component, name, part, known.deviation(gradient))
 
 
-def said_of(evidence: tuple[tuple[str, str], ...]) -> str:
+def evidence_said(evidence: tuple[tuple[str, str], ...]) -> str:
     """Return the balances that determine a figure, in words."""
     parts = [f"{component or 'mass'} at {node}" for component, node in evidence]
     return "by the balances of " + ", ".join(parts) if parts else ""

@@ -151,7 +151,7 @@ class Planned(Problem):
         """Refuse nothing: the plant was accepted with its present measurements."""
 
 
-def changes_of(state: PeriodState, before: Known, after: Known) -> list[SpreadChange]:
+def spread_changes(state: PeriodState, before: Known, after: Known) -> list[SpreadChange]:
     """Return the ± of all flows and grades before and after."""
     found = []
     for flow in state.problem.flows:
@@ -179,7 +179,7 @@ def deviation_of(known: Known, stream: str, component: str = "") -> float:
     return known.flow_deviation(stream)
 
 
-def changed(state: PeriodState, add: Iterable[Instrument], lose: Iterable[Instrument]) -> Known:
+def known_after(state: PeriodState, add: Iterable[Instrument], lose: Iterable[Instrument]) -> Known:
     """Return what is known with some instruments more and some fewer.
 
     Raises

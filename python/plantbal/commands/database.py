@@ -6,13 +6,13 @@ import argparse
 import sys
 
 from plantbal.book.library import Book
-from plantbal.commands.book.adding import lines_of as added_lines
+from plantbal.commands.book.adding import added_lines as added_lines
 from plantbal.commands.book.adding import may_ask
 from plantbal.database.queries import read_queries
-from plantbal.database.pulling import Pulled, lines_of, pull
+from plantbal.database.pulling import Pulled, pull, pull_lines
 from plantbal.database.pushing import push, tables_sql
 from plantbal.faults import WordsFault
-from plantbal.book.naming import day_of
+from plantbal.book.naming import day_named
 from plantbal.statuses import ExitStatus
 
 
@@ -21,16 +21,17 @@ class Pull:
 
     HELP = """
 QUERIES is a TOML file with the database and the queries, each with the sheet of a workbook that it
-gives (docs/PYTHON.md, "Databases"). All figures of the days are read, and the book says what is new,
-changed or late, as `book add` does; so what was pulled already is booked once. What is changed is
-amended, with the time at which the source changed it as the reason.
+gives (docs/PYTHON.md, "Databases"). All figures of the days are read, and the book says what is
+new, changed or late, as `book add` does; so what was pulled before isn't booked again. What is
+changed is amended, with the time at which the source changed it as the reason.
 
 At a terminal it is shown first, and you are asked: what is new, what is changed from which figure to
 which and when at the source, what is gone, and the densities by which facts change; the first twelve of
-each, and how many more. --yes books at once, as a pull of a night does, which has no terminal.
+each, and how many more. --yes books at once, as a nightly pull does, which has no terminal.
 
-What was pulled and is no longer at the source is a question: it is reported, and the status is 1. With
-vanished = "strike" under its query it is struck, and with "keep" it stays without a word.
+What was pulled and is no longer at the source is reported, and the status is 1: it is for a person
+to decide. With vanished = "strike" under its query it is struck, and with "keep" it stays and isn't
+reported.
 
 A password is never an argument: it comes from the environment or a file of mode 600, as QUERIES
 says, or from .pgpass. The transaction is read only.
@@ -60,7 +61,7 @@ examples:
     def run(options: argparse.Namespace) -> int:
         """Pull, and say what that was; at a terminal, ask before it is booked."""
         asks = not options.yes and not options.dry_run and may_ask()
-        days = [day_of(each, "") if each else None for each in (options.first, options.last)]
+        days = [day_named(each, "") if each else None for each in (options.first, options.last)]
         found = pull(
             Book(options.book, who=options.who),
             read_queries(options.queries),
@@ -80,7 +81,7 @@ examples:
 
 def _said(found: Pulled) -> list[str]:
     """Return what a pull books, a line each."""
-    return [*lines_of(found), *added_lines(found.added, found.times.time_of)]
+    return [*pull_lines(found), *added_lines(found.added, found.times.time_of)]
 
 
 def _agreed(found: Pulled) -> bool:
@@ -101,11 +102,11 @@ class PushCommand:
 
     HELP = """
 QUERIES is a TOML file with the database and a part [push] (docs/PYTHON.md, "Databases"). What is
-handed over of a period has an id. All of it is written in one transaction, or nothing; if the
+handed over for a period has an id. All of it is written in one transaction, or nothing; if the
 database has the id, nothing is written, and the status is 0 too. A report that is made again has
-another id, and its figures come beside those of the one before.
+another id, and its figures are added beside the earlier ones.
 
-  --tables prints the statements that make both tables, for whoever has the right to run them 
+  --tables prints the statements that make both tables, for whoever has the right to run them. 
 examples:
   plantbal-desk push erp.toml --tables
   plantbal-desk push erp.toml 2024-04 --book mill
@@ -116,7 +117,8 @@ examples:
         """Add the words of the command."""
         _add_common(parser)
         parser.add_argument("period", metavar="PERIOD", nargs="*")
-        parser.add_argument("--tables", action="store_true", help="print how the tables are made")
+        tables = "print the statements that make the tables"
+        parser.add_argument("--tables", action="store_true", help=tables)
 
     @staticmethod
     def run(options: argparse.Namespace) -> int:

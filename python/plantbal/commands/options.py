@@ -28,7 +28,7 @@ def seconds_of(text: str) -> float:
     raise argparse.ArgumentTypeError(f"{text!r} isn't a number of seconds: write 600")
 
 
-def whole_of(low: int, high: int) -> Callable[[str], int]:
+def whole_between(low: int, high: int) -> Callable[[str], int]:
     """Return what reads a whole number of a range from a word.
 
     Raises
@@ -65,10 +65,10 @@ def add_sweeps(parser: argparse.ArgumentParser) -> None:
     """Add the words that say how far a solution goes."""
     most = schema().limits
     gap = "the greatest gap, in thousandths of a standard deviation (default: 10)"
-    gaps = whole_of(1, most["most_gap"])
+    gaps = whole_between(1, most["most_gap"])
     parser.add_argument("--gap", metavar="N", type=gaps, default=10, help=gap)
     sweeps = "at most N sweeps (default: 5,000)"
-    allowed = whole_of(0, most["most_sweeps"])
+    allowed = whole_between(0, most["most_sweeps"])
     parser.add_argument("--sweeps", metavar="N", type=allowed, default=5000, help=sweeps)
 
 
@@ -78,7 +78,7 @@ def add_run(parser: argparse.ArgumentParser) -> None:
     add_sweeps(parser)
     parser.add_argument("--no-tests", action="store_true", help="make no tests")
     rounds = "take out at most N suspects, one in each round"
-    allowed = whole_of(0, schema().limits["most_rounds"])
+    allowed = whole_between(0, schema().limits["most_rounds"])
     parser.add_argument("--eliminate", metavar="N", type=allowed, default=0, help=rounds)
 
 
@@ -91,7 +91,7 @@ def add_reading(parser: argparse.ArgumentParser) -> None:
         metavar="TEXT",
         action="append",
         default=[],
-        help="a further text that means a missing figure",
+        help="another text that means a missing figure",
     )
     parser.add_argument(
         "--skip",

@@ -1,4 +1,4 @@
-"""Runs, checks, solutions and conversions as subcommands: what a shell wants of the package's
+"""Runs, checks, solutions and conversions as subcommands: what a shell needs of the package's
 calls."""
 
 from __future__ import annotations
@@ -18,7 +18,7 @@ from plantbal.commands.options import add_program, add_run, add_sweeps, add_time
 from plantbal.commands.progress import Progress
 from plantbal.faults import InputFault, ProgramFault, WordsFault, decoded, read_bytes
 from plantbal.files import unwritten, write_text
-from plantbal.gates import by_session, line_of, unsaid
+from plantbal.gates import by_session, line_of_stop, unsaid
 from plantbal.forms import session_to_run
 from plantbal.model.ledger import Ledger
 from plantbal.records import read_records
@@ -36,13 +36,13 @@ OUTPUT_HELP = """
 The report goes to standard output, or to the file of --out by its ending: .csv, .sqlite or .xlsx.
 The file is written whole or not at all. If somebody has to look at a report before it is booked
 (refused rows, no report, not converged, a global test that rejects), standard error says why, and
-the status is 1. It also says which streams carry more of a component than there is of them.
+the status is 1. It also says which streams carry more of a component than their whole mass.
 """
 RUN_HELP = """
 Standard error says how many rows are refused, with the first five in sentences with their lines.
 For each period it says whether there is a report, whether it converged, and what its global test
 says; then where the output is. On a terminal a long run shows its progress. If the program itself
-couldn't do its work, the status is 3, and standard error has the program's own.
+couldn't do its work, the status is 3, and standard error has the program's message.
 """
 FIRST = 5
 
@@ -116,10 +116,10 @@ def _run(options: argparse.Namespace) -> int:
     write(output)
     status = say(options, output)
     say_rows(options, source, data, output)
-    for line in periods_of(data, output):
+    for line in period_lines(data, output):
         print(f"{options.prog}: {line}", file=sys.stderr)
     for stop in unsaid(by_session(Ledger(source, data, kept=0), flows=False), missing=True):
-        print(f"{options.prog}: {line_of(stop)}", file=sys.stderr)
+        print(f"{options.prog}: {line_of_stop(stop)}", file=sys.stderr)
     if options.out != "-":
         print(f"{options.prog}: the output is in {options.out}", file=sys.stderr)
     return status
@@ -143,7 +143,7 @@ def say_rows(options: argparse.Namespace, source: str, data: bytes, output: Outp
         print(f"{options.prog}: {more} more {what} refused: {hint}", file=sys.stderr)
 
 
-def periods_of(data: bytes, output: Output) -> list[str]:
+def period_lines(data: bytes, output: Output) -> list[str]:
     """Return a line on each period: its last report, or that it has none.
 
     Parameters
@@ -305,7 +305,7 @@ examples:
 SOLVE = SimpleNamespace(
     __doc__="Reconciles a session with scipy, and returns only what plantbal's check accepts.",
     HELP=f"""
-It serves plants on which sweeps don't converge, such as long lines of units with equal meters.
+It is for plants on which sweeps don't converge, such as long lines of units with equal meters.
 SESSION is a file; without it standard input is read.{OUTPUT_HELP}
 examples:
   plantbal-desk solve line.csv --out line.csv
@@ -318,7 +318,7 @@ CHECK = SimpleNamespace(
     HELP="""
 REPORT is a file; without it standard input is read. The status is 0 if each block gets a yes, and
 1 otherwise; a file without a block is a fault. Standard error says which streams carry more of a
-component than there is of them, which no block is refused for.
+component than their whole mass; no block is refused for that.
 
 examples:
   plantbal-desk check report.jsonl
@@ -327,7 +327,7 @@ examples:
     run=lambda options: answer_with_json(_check, options),
 )
 REPORT = SimpleNamespace(
-    __doc__="Turns a report into CSV, an SQLite database, or a workbook with one table a sheet.",
+    __doc__="Turns a report into CSV, an SQLite database, or a workbook with one table per sheet.",
     HELP="""
 REPORT is what plantbal wrote, as CSV or as JSON lines; without it standard input is read. JSON
 lines are turned back into CSV, which a check can read.

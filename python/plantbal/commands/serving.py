@@ -8,10 +8,10 @@ from typing import Any
 from plantbal.statuses import ExitStatus
 
 HELP = """
-Each BOOK is the folder of a plant's book; what was opened before is there again. The desk answers on
-127.0.0.1 alone, and only to who has the key that is in the printed address. It needs python3-django.
-What the desk keeps of its own (comments, files, sign-ins) is in the folder of --state; figures are
-in the books alone. Ctrl-C ends it.
+Each BOOK is the folder of a plant's book; books that were opened before are there again. The desk
+answers on 127.0.0.1 alone, and only to whoever has the key in the printed address. It needs
+python3-django. The desk's own data (comments, files, sign-ins) is in the folder of --state; figures
+are only in the books. Ctrl-C stops it.
 
 examples:
   plantbal-desk serve mill
@@ -26,9 +26,7 @@ def add_arguments(parser: argparse.ArgumentParser) -> None:
         "--port", metavar="N", type=int, default=0, help="the port (default: a free one)"
     )
     parser.add_argument("--no-browser", action="store_true", help="open no browser")
-    where = (
-        "the folder for what the desk keeps of its own (default: plantbal/desk in XDG_STATE_HOME)"
-    )
+    where = "the folder for the desk's own data (default: plantbal/desk in XDG_STATE_HOME)"
     parser.add_argument("--state", metavar="FOLDER", help=where)
     parser.add_argument(
         "--program", metavar="PATH", help="the program (default: see plantbal-desk run)"

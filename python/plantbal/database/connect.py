@@ -95,7 +95,7 @@ def _engine(queries: Queries, password: Password, writing: bool) -> Any:
     Raises
     ------
     Fault
-        If the url is none or has a password, or there is no driver.
+        If the url isn't one or has a password, or there is no driver.
     """
     import sqlalchemy
     from sqlalchemy.pool import NullPool
@@ -106,7 +106,9 @@ def _engine(queries: Queries, password: Password, writing: bool) -> Any:
         dialect = url.get_backend_name()
     except (sqlalchemy.exc.ArgumentError, ValueError):
         remedy = 'write it as "postgresql://USER@HOST/DATABASE", or "sqlite:///FILE"'
-        raise InputFault("[source] url is none", place=place, remedy=remedy) from None
+        raise InputFault(
+            "[source] url isn't the address of a database", place=place, remedy=remedy
+        ) from None
     words = [*url.query, *(f"{each}" for each in url.query.values())]
     if url.password is not None or any(_HAS_PASSWORD.search(word) for word in words):
         remedy = 'take it out, change it, and write password = "env NAME" or "file PATH"'

@@ -27,7 +27,7 @@ from plantbal.faults import Fault, InputFault, Place
 from plantbal.workbook.cells import Reader
 from plantbal.workbook.hours import Clock, stamp_of
 from plantbal.workbook.options import ReadingOptions
-from plantbal.workbook.settings import Settings, settings_of
+from plantbal.workbook.settings import read_settings, Settings
 from plantbal.workbook.sheets import Cell, Sheet
 
 if TYPE_CHECKING:
@@ -220,7 +220,7 @@ def _settings(queries: Queries, reader: Reader) -> Settings:
         (Cell(sheet, at, 1, name), Cell(sheet, at, 2, value), Cell(sheet, at, 3, None))
         for at, (name, value) in enumerate(queries.settings.items(), 1)
     ]
-    found, faults = settings_of(rows, reader)
+    found, faults = read_settings(rows, reader)
     if faults:
         raise faults[0]
     return found
@@ -262,7 +262,7 @@ def _parameters(
     return {"eve": eve, "first": first, "last": last, "begin": begin, "end": end}
 
 
-def lines_of(found: Pulled) -> Iterator[str]:
+def pull_lines(found: Pulled) -> Iterator[str]:
     """Give what is to be said of a pull before what the book says: of the source, what is new."""
     yield f"{found.first} to {found.last} were read"
     yield from found.notes

@@ -134,6 +134,7 @@ class _QueryReading:
         self.left, self.found = left, found
         self.floats = 0
         self.missing: Counter[str] = Counter()
+        self.no_numbers: Counter[str] = Counter()
 
     def fault(self, what: str, remedy: str, line: int | None = None) -> InputFault:
         """Return a fault of the query, or of a row that it gave."""
@@ -210,13 +211,20 @@ class _QueryReading:
             self.floats += 1
             value = Decimal(repr(value))
         number = Decimal(value)
-        return number if number.is_finite() else None
+        if not number.is_finite():
+            self.no_numbers[head] += 1
+            return None
+        return number
 
     def _say(self, name: str) -> None:
         if self.floats:
             figures = "1 figure is a float" if self.floats == 1 else f"{self.floats:,} are floats"
             note = f"{name}: {figures}, read as the shortest decimal numbers that give them"
             self.found.notes.append(note)
+        for head, count in sorted(self.no_numbers.items()):
+            figures = "1 figure is" if count == 1 else f"{count:,} figures are"
+            what = f"{figures} NaN or infinite, and taken for missing: {head}"
+            self.found.notes.append(f"{name}: {what}")
         for tag, count in sorted(self.missing.items()):
             figures = "1 figure has" if count == 1 else f"{count:,} figures have"
             self.found.notes.append(f"{name}: {figures} a bad quality, and is missing: {tag}")

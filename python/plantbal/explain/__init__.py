@@ -2,7 +2,7 @@
 
 from plantbal.explain.command import is_report, same_refusals
 from plantbal.explain.sessions import explain, explain_bytes
-from plantbal.explain.text import Field, Text, picture, shown
+from plantbal.explain.text import Field, Text, marked_line, shown_bytes
 from plantbal.explain.told import ExplainedRow, Explanation
 
 __all__ = [
@@ -13,7 +13,7 @@ __all__ = [
     "explain",
     "explain_bytes",
     "is_report",
-    "picture",
+    "marked_line",
     "same_refusals",
-    "shown",
+    "shown_bytes",
 ]

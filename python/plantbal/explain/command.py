@@ -30,9 +30,9 @@ refused only because an earlier row was are shown under that row. What is wrong 
 
 OUTPUT is what plantbal wrote for the session, as CSV or as JSON lines: the two are compared.
 
-If the first file is a report, the second is what a check said about it; without it the command
-makes the check itself. Each `no` and each `unreadable` is shown with its row, and with what the
-test asks for.
+If the first file is a report, the second is what a check said about it; without it the command runs
+the check itself. Each `no` and each `unreadable` is shown with its row, and with what the test asks
+for.
 
 The status is 1 if there was anything to explain, and 0 otherwise.
 

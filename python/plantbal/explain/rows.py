@@ -5,7 +5,7 @@ from __future__ import annotations
 from dataclasses import dataclass
 
 from plantbal.explain.counts import both, count_of_fields, row_meant
-from plantbal.explain.text import Field, Text, cut, picture, quoted, shown
+from plantbal.explain.text import Field, Text, cut, marked_line, quoted, shown_bytes
 from plantbal.explain.told import ExplainedRow
 from plantbal.faults import Refusal
 from plantbal.model.causes import Cause
@@ -15,7 +15,7 @@ from plantbal.records import Record
 _OF_FORM = (Cause.NAME, Cause.NUMBER, Cause.DATE)
 
 
-def place_of(refusal: Refusal) -> tuple[int, str] | None:
+def field_at_fault(refusal: Refusal) -> tuple[int, str] | None:
     """Return the number of the field at fault, counted from 0, and its label, or None."""
     row = row_meant(refusal.row)
     if refusal.column == "kind" or row is None:
@@ -100,7 +100,7 @@ def _of_field(refusal: Refusal, remedy: str, number: int) -> _Said:
     number : int
         Its number as a record.
     """
-    row, said, place = refusal.row, refusal.said, place_of(refusal)
+    row, said, place = refusal.row, refusal.said, field_at_fault(refusal)
     if place is None:
         return _Said(f"{said}; no single field is at fault", remedy)
     first, label = place
@@ -127,7 +127,7 @@ def _of_kind(refusal: Refusal, value: str) -> str:
     return f"KIND is {quoted(value)}, and there is no such kind of row"
 
 
-def told_of(text: Text, record: Record, refusal: Refusal, instead: str = "") -> ExplainedRow:
+def explained_row(text: Text, record: Record, refusal: Refusal, instead: str = "") -> ExplainedRow:
     """Return what is said of a refused row.
 
     Parameters
@@ -156,7 +156,7 @@ def told_of(text: Text, record: Record, refusal: Refusal, instead: str = "") -> 
         record=record.number,
         code=refusal.code,
         word=refusal.word,
-        sentence=both(f"{cut(shown(refusal.head))}: {said}", what.remedy),
+        sentence=both(f"{cut(shown_bytes(refusal.head))}: {said}", what.remedy),
         column=what.label,
         row=line,
         mark=mark,
@@ -170,8 +170,8 @@ def _marked(
     first, last = what.first, what.last
     if first is not None and first < len(fields):
         end = first if last is None else min(last, len(fields) - 1)
-        return picture(text, fields[first], fields[end])
-    number, line, mark = picture(text, Field(fields[0].begin, fields[-1].end))
+        return marked_line(text, fields[first], fields[end])
+    number, line, mark = marked_line(text, Field(fields[0].begin, fields[-1].end))
     if is_count:  # what is missing comes at the end
         mark = (mark[0] + mark[1], 1)
     return number, line, mark

@@ -6,7 +6,7 @@ from pathlib import Path
 
 from plantbal import limits
 from plantbal.explain.roots import DeclaringLines, Roots
-from plantbal.explain.rows import told_of
+from plantbal.explain.rows import explained_row
 from plantbal.explain.text import Text
 from plantbal.explain.told import ExplainedRow, Explanation
 from plantbal.explain.whole import records_of, whole_file
@@ -49,7 +49,7 @@ def explain_bytes(source: str, data: bytes, *, whole: bool = True) -> Explanatio
         if record.number in covered:
             continue
         refusal = refused[record.number]
-        told = told_of(text, record, refusal, declared.instead(record, refusal))
+        told = explained_row(text, record, refusal, declared.instead(record, refusal))
         cause = roots.cause(refusal)
         if cause is not None:
             cause.under.append(told)

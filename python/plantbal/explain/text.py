@@ -105,7 +105,7 @@ class Text:
             place += 1
 
 
-def shown(text: str) -> str:
+def shown_bytes(text: str) -> str:
     """Return a text of bytes as people read it: UTF-8, or else cp1252, without control
     characters."""
     data = text.encode("latin-1", "replace")
@@ -123,7 +123,7 @@ def cut(text: str) -> str:
 
 def quoted(text: str) -> str:
     """Return a field's text between quotes, as people read it."""
-    return f"'{cut(shown(text))}'"
+    return f"'{cut(shown_bytes(text))}'"
 
 
 def width(text: str) -> int:
@@ -132,7 +132,7 @@ def width(text: str) -> int:
     return len(text) + wide - sum(unicodedata.combining(each) != 0 for each in text)
 
 
-def picture(
+def marked_line(
     text: Text, first: Field, last: Field | None = None
 ) -> tuple[int, str, tuple[int, int]]:
     """Return the line of a field, the line's text, and where a mark under the field goes.
@@ -147,8 +147,10 @@ def picture(
     number = text.line_at(first.begin)
     line, begin = text.line(number), text.starts[number - 1]
     end = min((last or first).end - begin, len(line))
-    front, middle = shown(line[: first.begin - begin]), shown(line[first.begin - begin : end])
-    rest = shown(line[end:])
+    front, middle = shown_bytes(line[: first.begin - begin]), shown_bytes(
+        line[first.begin - begin : end]
+    )
+    rest = shown_bytes(line[end:])
     if width(front) + width(middle) + width(rest) > WIDEST:
         middle = middle if len(middle) <= 60 else middle[:59] + "…"
         front = front if len(front) <= 40 else "…" + front[-39:]

@@ -2,7 +2,7 @@
 
 from __future__ import annotations
 
-from plantbal.explain.text import WIDEST, Field, Text, picture, shown
+from plantbal.explain.text import WIDEST, Field, Text, marked_line, shown_bytes
 from plantbal.explain.told import ExplainedRow
 from plantbal.faults import Refusal
 from plantbal.forms import SIGNS, form_of, sign_between
@@ -37,13 +37,13 @@ def whole_file(text: Text, refused: dict[int, Refusal]) -> list[ExplainedRow]:
             f"fields have {SIGNS[sign]} between them; save the file with commas between fields",
             line,
         )
-        made.row = shown(text.line(line).replace("\t", " "))[:WIDEST]
+        made.row = shown_bytes(text.line(line).replace("\t", " "))[:WIDEST]
         made.under = [_short(text, record, refused) for record in records]
         found.append(made)
     last = text.last
     fields = text.fields(last)
     if not fields[-1].closed:
-        number, line_text, mark = picture(text, Field(fields[-1].begin, fields[-1].begin + 1))
+        number, line_text, mark = marked_line(text, Field(fields[-1].begin, fields[-1].begin + 1))
         made = _told(
             "a double quote opens here and is never closed, so that all after it is one field; "
             "close it, or take it out",
@@ -67,7 +67,7 @@ def records_of(text: Text, refused: dict[int, Refusal]) -> list[Record]:
 
 def _short(text: Text, record: Record, refused: dict[int, Refusal]) -> ExplainedRow:
     refusal = refused[record.number]
-    sentence = shown(f"{refusal.head}: {refusal.said}")
+    sentence = shown_bytes(f"{refusal.head}: {refusal.said}")
     return ExplainedRow(
         text.source, record.line, record.number, refusal.code, refusal.word, sentence
     )

@@ -1,8 +1,8 @@
-"""Brings all nights and books of a group into one SQLite database, with views of what a group asks.
+"""Brings all nights and books of a group into one SQLite database, with views for its questions.
 
-Of each plant and period the last report counts: of a folder of nights the one of the newest night
-that has an output of it, of a book the one that the book keeps. Amounts are whole grams; the views
-have tonnes.
+For each plant and period the last report counts: in a folder of nights that of the newest night
+with an output of it, in a book the one that the book keeps. Amounts are whole grams; the views have
+tonnes.
 """
 
 from __future__ import annotations
@@ -17,7 +17,7 @@ from pathlib import Path
 
 from plantbal.faults import Fault, FileFault, InputFault, Place, decoded, read_bytes
 from plantbal.files import replacing
-from plantbal.fleet.given import days_of
+from plantbal.fleet.given import given_days
 from plantbal.fleet.limits import JUDGED_BYTES
 from plantbal.fleet.pack import outputs_in
 from plantbal.fleet.sites import NIGHT, is_book
@@ -176,7 +176,7 @@ def _days(sessions: Iterable[Path], periods: set[str]) -> dict[str, str]:
     for path in sessions:
         if lacking := periods - set(found):
             try:
-                found |= days_of(read_bytes(path, SESSION_BYTES)[1], lacking)
+                found |= given_days(read_bytes(path, SESSION_BYTES)[1], lacking)
             except InputFault:
                 continue  # a session that has gone since: its periods have no days
     return found

@@ -14,7 +14,7 @@ from dataclasses import dataclass, field
 from plantbal.faults import InputFault
 from plantbal.files import write_bytes
 from plantbal.fleet.night import Night
-from plantbal.fleet.rows import FleetPlant, FleetRow, failed
+from plantbal.fleet.rows import FleetPlant, FleetRow, failed_plant
 from plantbal.fleet.sites import Site
 from plantbal.fleet.taking import Taker
 
@@ -47,7 +47,7 @@ class Books:
                 self._take(site, sessions)
 
             def wrong(said: str, site: Site = site) -> None:
-                self.plants[site.name] = failed(site, "nosession", said)
+                self.plants[site.name] = failed_plant(site, "nosession", said)
 
             taker.book(site, found, wrong)
         taker.finish()
@@ -69,4 +69,6 @@ class Books:
                     write_bytes(path, data)  # else a night that goes on finds it as it was
                 self.sites.append(made)
             except (OSError, InputFault) as error:
-                self.plants[name] = failed(made, "nosession", f"its session isn't made: {error}")
+                self.plants[name] = failed_plant(
+                    made, "nosession", f"its session isn't made: {error}"
+                )

@@ -184,7 +184,7 @@ class _Cluster:
             job = self._job_of.pop(future.key)
             ended = self._came(future, job)
             future.release()
-            failed = bool(ended.why) or calls.failed(str(job.part))
+            failed = bool(ended.why) or calls.is_undone(str(job.part))
             if failed and self._tries[job.site] < self._asked.retries:
                 self._waiting.append(job)
             else:

@@ -22,20 +22,20 @@ from plantbal.fleet.engines import Engine, EngineChoice
 from plantbal.fleet.given import sha256_of
 from plantbal.fleet.night import Night, alone
 from plantbal.fleet.pack import Packer
-from plantbal.fleet.rows import FleetPlant, failed, summary
+from plantbal.fleet.rows import FleetPlant, failed_plant, plants_summary
 from plantbal.fleet.running import Fleet, lint_plants
 from plantbal.fleet.sites import NIGHT, Site, sites
 from plantbal.program import find_program
 from plantbal.statuses import ExitStatus, looks
 
 HELP = """
-Each FOLDER/SITE.csv is a session, and each FOLDER/SITE with a journal.csv the book of a plant, which
-is run by its open periods. These files are kept for a night, which has the name of its day:
+Each FOLDER/SITE.csv is a session, and each FOLDER/SITE with a journal.csv is the book of a plant,
+whose open periods are run. These files are kept for each night, which is named after its day:
 
   OUT/SITE/NIGHT/output.csv   the output (.jsonl with --format json), with stderr.txt and run.json
   OUT/SITE/latest             a link to the last night that has an output
   OUT/nights/NIGHT/           table.csv, SHA256SUMS, sessions.sha256, and the joblog of GNU parallel
-  OUT/latest                  a link to the last night that is whole
+  OUT/latest                  a link to the last night that is complete
   OUT/fleet.sqlite            the tables `nights` and `plants` of all nights
   OUT/index.html              the last night, for a browser
   OUT/night.json, night.prom  the last night, for programs and for Prometheus' textfile collector
@@ -52,20 +52,20 @@ The table goes to standard output too, with a row for each period's last report:
   site,period,days,state,dof,statistic,critical,p,verdict,suspects,refused,first_refusal,status,
   seconds,warnings,look
 
-Windows and balances of components have rows of their own, their `period` such as may to june and
-cu in may; a window's `suspects` are codes of its streams, which `look` names. `state` is
+Windows and balances of components have their own rows, with a `period` such as may to june or cu in
+may; a window's `suspects` are codes of its streams, whose names are in `look`. `state` is
 converged, unconverged, over (a total beyond the limits), none (no report), unreadable (the output
-isn't plantbal's), refused (it doesn't agree with itself), yes or no (of a check). For a plant without an output it is the name of the
-program's status of 2 to 6, ended (another status), timeout, lost (by a machine of the cluster),
-nosession or nooutput (files that can't be read or written). `p` is the probability of a statistic
-as great as that if there is no gross error. `verdict` is that of the global test, which needs
---tests or --eliminate N among WORDS; `suspects` are given only if it rejects and no
-row is refused, or if a stream was taken out. `look` says why somebody has to look: a row is
-refused, there is no report, it hasn't converged, the global test rejects or can't be made, a
-stream carries more of a component than there is of it, the session is stale, or it has gone. A
+isn't plantbal's), refused (it doesn't agree with itself), yes or no (of a check). For a plant
+without an output it is the name of the program's status (2 to 6), ended (another status), timeout,
+lost (by a machine of the cluster), nosession or nooutput (files that can't be read or written). `p`
+is the probability of a statistic at least as great if there is no gross error. `verdict` is that of
+the global test, which needs --tests or --eliminate N among WORDS; `suspects` are given only if it
+rejects and no row is refused, or if a stream was taken out. `look` says why somebody has to look: a
+row is refused, there is no report, it hasn't converged, the global test rejects or can't be made, a
+stream carries more of a component than its whole mass, the session is stale, or it has gone. A
 plant whose session has gone is reported each night until --forget SITE. Standard error says so too.
-The status is 1 if somebody has to look at any plant, 3 if no plant could be run or the night couldn't
-be kept, and 0 otherwise.
+The status is 1 if somebody has to look at any plant, 3 if no plant could be run or the night
+couldn't be saved, and 0 otherwise.
 
 Arguments after a single -- are given to plantbal; the default is `run`:
 
@@ -75,9 +75,9 @@ Arguments after a single -- are given to plantbal; the default is `run`:
       --out /shared/nights /shared/sessions > table.csv
 
 With a cluster of dask each machine has the program in the same place, and sees the folders under
-the same names; with --send it need not see them: then the bytes of sessions and outputs go over
-the network. With --lint each session is also read for what is accepted but looks wrong, which
-takes longer than most reports do.
+the same names; with --send it doesn't need to: then the bytes of sessions and outputs go over the
+network. With --lint each session is also read for what is accepted but looks wrong, which takes
+longer than most reports do.
 """
 
 
@@ -88,9 +88,10 @@ def add_arguments(parser: argparse.ArgumentParser) -> None:
     add("folder", metavar="FOLDER")
     add("--out", metavar="OUT", required=True, help="the folder of all nights")
     add("--date", metavar="NIGHT", type=_night, help="the night's name (default: today's date)")
-    add("--again", action="store_true", help="run what has its output too")
+    add("--again", action="store_true", help="run sessions that already have their output, too")
     add("--recursive", action="store_true", help="take the sessions in folders inside FOLDER too")
-    add("--engine", choices=["parallel", "dask"], help="dask with --scheduler or --send")
+    engine = "what runs the sessions (default: dask with --scheduler or --send, else parallel)"
+    add("--engine", choices=["parallel", "dask"], help=engine)
     processors = "N sessions at once (default: as many as there are processors)"
     add("--jobs", metavar="N", type=_count, help=processors)
     timeout = "stop a session after that many seconds"
@@ -101,7 +102,9 @@ def add_arguments(parser: argparse.ArgumentParser) -> None:
     program = "the program (default: that of PLANTBAL, of the path, or of this checkout)"
     add("--program", metavar="PATH", help=program)
     add("--lint", action="store_true", help="show what lint warns of, too")
-    stale = "report plants whose session hasn't changed, or whose last fact is older, for 26h or 3d"
+    stale = (
+        "report plants whose session hasn't changed, or has no newer fact, for this long: 26h or 3d"
+    )
     add("--stale", metavar="AGE", type=age_of, help=stale)
     level = "test reports without a critical value at this level, such as 0.01"
     add("--level", metavar="P", type=level_of, help=level)
@@ -196,7 +199,7 @@ def run(options: argparse.Namespace) -> int:
     packer = Packer(night) if options.pack else None
     fleet = Fleet(night, chosen.sites, packer=packer)
     for site, said in chosen.wrong.items():
-        fleet.plants[site.name] = failed(site, "nosession", said)
+        fleet.plants[site.name] = failed_plant(site, "nosession", said)
     engine = _engine(elsewhere or options.send or options.engine == "dask")
     begun = _now()
     with _stopped_by_sigterm(), alone(out) as lock, packer or nullcontext(), fleet.taker:
@@ -219,7 +222,7 @@ def run(options: argparse.Namespace) -> int:
             say(f"stopped after {count}: the same command with --date {name} runs the others")
             return ExitStatus.STOPPED
         from plantbal.fleet.index import index
-        from plantbal.fleet.keep import Times, keep, table, thin_out
+        from plantbal.fleet.keep import Times, keep_night, plants_table, thin_out
         from plantbal.fleet.signals import Signal, write_signals
 
         _take_gone(fleet, folder, options.forget, chosen.books)
@@ -233,14 +236,14 @@ def run(options: argparse.Namespace) -> int:
         try:
             if packer is not None:
                 packer.finish()
-            keep(fleet.night, plants, fleet.runs, fleet.sums, times)
+            keep_night(fleet.night, plants, fleet.runs, fleet.sums, times)
             index(fleet.night, plants, times)
             if options.keep is not None:
                 thin_out(fleet.night, options.keep)
         except (Fault, OSError) as error:  # the disk is full, mostly: what is known is said
             unkept.append(error)
         is_late = _say_future(say, fleet.night)
-        status = status_of(plants, is_late)
+        status = night_status(plants, is_late)
         runs = {site.name: run for site, run in fleet.runs.items()}
         signals = [Signal(plant, runs.get(plant.site)) for plant in plants]
         try:
@@ -248,14 +251,14 @@ def run(options: argparse.Namespace) -> int:
             write_signals(fleet.night, signals, times, ends)
         except (Fault, OSError) as error:
             unkept.append(error)
-    write_text("-", table(plants))
+    write_text("-", plants_table(plants))
     _say_all(say, plants, None if unkept else out / "index.html")
     for fault in unkept:
         raise fault
     return status
 
 
-def status_of(plants: Sequence[FleetPlant], is_late: bool) -> ExitStatus:
+def night_status(plants: Sequence[FleetPlant], is_late: bool) -> ExitStatus:
     """Return the status of a night that was kept.
 
     Parameters
@@ -289,9 +292,9 @@ def _take_gone(fleet: Fleet, folder: Path, forgotten: Sequence[str], books: Sequ
     Fault
         If one that is to be forgotten has not gone.
     """
-    from plantbal.fleet.keep import gone
+    from plantbal.fleet.keep import plants_gone
 
-    found = gone(fleet.night, fleet.plants)
+    found = plants_gone(fleet.night, fleet.plants)
     for book in books:  # an earlier year of one that has no open period any more
         for name in [name for name in found if name.startswith(f"{book.name}/")]:
             if re.fullmatch(r"[^/]+", name[len(book.name) + 1 :]):
@@ -306,7 +309,7 @@ def _take_gone(fleet: Fleet, folder: Path, forgotten: Sequence[str], books: Sequ
         if name not in forgotten:
             site = Site(name, folder / f"{name}.csv")
             said = f"its session has gone; it was run on {before}; --forget {name} ends this"
-            fleet.plants[name] = failed(site, "nosession", said)
+            fleet.plants[name] = failed_plant(site, "nosession", said)
 
 
 def alarm(fleet: Fleet, plants: list[FleetPlant], level: float | None, stale: float | None) -> None:
@@ -351,4 +354,4 @@ def _say_all(say: Callable[[str], None], plants: list[FleetPlant], page: Path | 
     for plant in plants:
         if warnings := plant.rows[0].warnings:
             say(f"{plant.site}: {warnings}")
-    say(f"{summary(plants)}: {page}" if page else summary(plants))
+    say(f"{plants_summary(plants)}: {page}" if page else plants_summary(plants))

@@ -9,11 +9,11 @@ from functools import cached_property
 from itertools import islice
 from pathlib import Path
 
-from plantbal.audit.believed import judge
+from plantbal.audit.believed import require_believed
 from plantbal.faults import InputFault, decoded, read_beginning, read_bytes
 from plantbal.fleet.alarms import last_day
 from plantbal.fleet.engines import WHY
-from plantbal.fleet.given import Given, days_of, has_critical
+from plantbal.fleet.given import Given, given_days, has_critical
 from plantbal.fleet.job import SAID
 from plantbal.fleet.limits import (
     JUDGED_BYTES,
@@ -26,7 +26,7 @@ from plantbal.fleet.limits import (
 )
 from plantbal.fleet.night import KeptPlant, Night
 from plantbal.fleet.outline import Outline, outline_of
-from plantbal.fleet.rows import FleetPlant, FleetRow, failed
+from plantbal.fleet.rows import FleetPlant, FleetRow, failed_plant
 from plantbal.fleet.sites import Site
 from plantbal.limits import SESSION_BYTES
 from plantbal.program import STATUSES
@@ -83,10 +83,10 @@ class GatheredOutput:
         if not self.refused:
             with suppress(OSError), self.site.path.open("rb") as file:
                 head = file.read(_HEAD)
-                found = days_of(head[: head.rfind(b"\n") + 1], periods)
+                found = given_days(head[: head.rfind(b"\n") + 1], periods)
                 if len(found) == len(periods):
                     return found
-        return days_of(self.session, periods, self.refused)
+        return given_days(self.session, periods, self.refused)
 
     @cached_property
     def over(self) -> dict[Subject, str]:
@@ -117,15 +117,15 @@ def gather(night: Night, site: Site, kept: KeptPlant, given: Given) -> FleetPlan
     """
     run = kept.run
     if run.status is None:
-        return failed(site, "stopped", WHY["stopped"])
+        return failed_plant(site, "stopped", WHY["stopped"])
     if run.status not in (0, 1):
-        return failed(site, *_of_status(night, site, kept), run)
+        return failed_plant(site, *_of_status(night, site, kept), run)
     path = night.output_of(site)
     try:
         outline = outline_of(path)
     except InputFault as fault:
-        return failed(site, "unreadable", str(fault), run)
-    told = GatheredOutput(site, outline, asked_of(night.words))
+        return failed_plant(site, "unreadable", str(fault), run)
+    told = GatheredOutput(site, outline, gap_and_sweeps(night.words))
     plant = _of_outline(told)
     if run.program_sha256 != night.program_sha256:
         what = (
@@ -139,7 +139,7 @@ def gather(night: Night, site: Site, kept: KeptPlant, given: Given) -> FleetPlan
             try:
                 _judge(night, path)
             except InputFault as fault:
-                return replace(failed(site, "refused", str(fault), run), is_believed=False)
+                return replace(failed_plant(site, "refused", str(fault), run), is_believed=False)
     else:
         what = f"its output has more than the {JUDGED_BYTES:,} bytes that a check reads"
         plant.why.append(f"{what}, so it isn't judged: ask for fewer reports")
@@ -171,7 +171,7 @@ def _judge(night: Night, output: Path) -> None:
     source, data = read_bytes(output)
     if data.startswith(b"{"):
         data = csv_of(parse_rows(source, decoded(source, data))).encode("utf-8")
-    judge(data, source, night.program)
+    require_believed(data, source, night.program)
 
 
 def _of_status(night: Night, site: Site, kept: KeptPlant) -> tuple[str, str]:
@@ -272,7 +272,7 @@ def _suspects_said(block: Block, suspects: Sequence[str]) -> list[str]:
     return [*taken, *(one_of_said(names, block, 5) for names in sets)]
 
 
-def asked_of(words: Sequence[str]) -> dict[str, str]:
+def gap_and_sweeps(words: Sequence[str]) -> dict[str, str]:
     """Return the gap and the sweeps that words of a run ask for."""
     asked = {"gap": "10", "sweeps": "5000"}
     flat = [part for word in words for part in word.split("=", 1)]
@@ -301,7 +301,7 @@ def _of_solution(told: GatheredOutput, block: Block, solved: Values) -> list[str
 
 
 def _of_components(plant: FleetPlant, output: Path, size: int) -> None:
-    """Say which streams carry more of a component than there is of them."""
+    """Say which streams carry more of a component than their whole mass."""
     from plantbal.report.carried import impossible
 
     if size > JUDGED_BYTES:

@@ -162,7 +162,9 @@ def _lines(data: bytes, kind: str) -> Iterator[tuple[str, ...]]:
         yield tuple(found[0].lstrip().decode("latin-1").split(","))
 
 
-def days_of(data: bytes, wanted: Collection[str], refused: Collection[int] = ()) -> dict[str, str]:
+def given_days(
+    data: bytes, wanted: Collection[str], refused: Collection[int] = ()
+) -> dict[str, str]:
     """Return the first and the last day of some periods of a session, without the refused rows."""
     rows = (row for row in _rows(data, "period", refused) if len(row) > 3 and row[1] in wanted)
     return {row[1]: f"{row[2]}..{row[3]}" for row in islice(rows, len(wanted))}

@@ -18,7 +18,7 @@ from plantbal.faults import ToolMissing
 from plantbal.files import write_text
 from plantbal.fleet.keep import Times, database
 from plantbal.fleet.night import Night
-from plantbal.fleet.rows import FleetPlant, FleetRow, summary
+from plantbal.fleet.rows import FleetPlant, FleetRow, plants_summary
 
 if TYPE_CHECKING:
     from jinja2 import Template
@@ -50,7 +50,7 @@ class IndexLine:
 
 
 @cache
-def template() -> Template:
+def index_template() -> Template:
     """Return the page's template.
 
     Raises
@@ -83,12 +83,12 @@ def index(night: Night, plants: Sequence[FleetPlant], times: Times) -> None:
     names = [page_name(number) for number in range(1, len(parts) + 1)]
     # the first one last: whoever sees it finds the others
     for name, part in reversed(list(zip(names, parts))):
-        text = template().render(
+        text = index_template().render(
             night=night,
             times=times,
             lines=list(_lines(night, part, before)),
             nights=nights,
-            said=summary(plants),
+            said=plants_summary(plants),
             words=" ".join(night.words),
             pages=names if len(names) > 1 else [],
             page=name,

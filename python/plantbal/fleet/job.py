@@ -199,7 +199,7 @@ def times(part: str) -> tuple[float, float]:
     return os.stat(part).st_mtime, max(each.stat().st_mtime for each in os.scandir(part))
 
 
-def failed(part: str) -> bool:
+def is_undone(part: str) -> bool:
     """Say whether the program wasn't done, by the files that a job left."""
     try:
         return ended(part)[0] > 1

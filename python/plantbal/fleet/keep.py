@@ -59,7 +59,7 @@ class Times:
     ended: str
 
 
-def table(plants: Iterable[FleetPlant]) -> str:
+def plants_table(plants: Iterable[FleetPlant]) -> str:
     """Return the table of plants as CSV, which a spreadsheet may open."""
     return csv_text([HEADS, *(row.values() for plant in plants for row in plant.rows)])
 
@@ -67,7 +67,7 @@ def table(plants: Iterable[FleetPlant]) -> str:
 Sums = Mapping[Site, Mapping[str, str]]
 
 
-def keep(
+def keep_night(
     night: Night, plants: Sequence[FleetPlant], runs: Mapping[Site, Run], sums: Sums, times: Times
 ) -> None:
     """Write what is kept of a night, and make it the latest one.
@@ -86,7 +86,7 @@ def keep(
         When it began and ended.
     """
     night.folder.mkdir(parents=True, exist_ok=True)
-    write_text(night.folder / "table.csv", table(plants))
+    write_text(night.folder / "table.csv", plants_table(plants))
     ordered = sorted(runs)
     sessions = ((runs[site].session_sha256, runs[site].session) for site in ordered)
     write_text(night.folder / "sessions.sha256", checksums(sessions))
@@ -177,7 +177,7 @@ def database(path: Path) -> Iterator[sqlite3.Connection]:
         ) from error
 
 
-def gone(night: Night, sites: Collection[str]) -> dict[str, str]:
+def plants_gone(night: Night, sites: Collection[str]) -> dict[str, str]:
     """Return the plants of the night before that aren't among these sites, until they are forgotten.
 
     Each has the last night on which it had a session.

@@ -23,7 +23,7 @@ _ENDED = {
     ExitStatus.GOOD: "nobody has to look",
     ExitStatus.LOOK: "somebody has to look",
     ExitStatus.USAGE: "its options are wrong: it wasn't run",
-    ExitStatus.FAILED: "it couldn't be run, or what came of it couldn't be kept",
+    ExitStatus.FAILED: "it couldn't be run, or its result couldn't be saved",
     ExitStatus.STOPPED: "it was stopped",
 }
 

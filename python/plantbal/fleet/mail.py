@@ -251,7 +251,7 @@ def send(
     tries : int
         How often it is tried in all.
     pause : float
-        Seconds before the second try; twice as many before the third, and so on.
+        Seconds to wait before the second try; twice as many before the third, and so on.
     say : callable
         Gets what is said of a try that failed before another one.
     wait : callable
@@ -275,7 +275,7 @@ def send(
             wait(seconds)
 
 
-def password_of(path: str | None) -> str:
+def mail_password(path: str | None) -> str:
     """Return the password in the first line of a file; empty without one.
 
     Raises

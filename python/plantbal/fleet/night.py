@@ -7,7 +7,7 @@
     OUT/SITE/NIGHT/run.json     the session, the program, the words, and their digests
     OUT/SITE/latest             a link to the last night with an output
     OUT/nights/NIGHT/           the table and the checksums of all plants
-    OUT/latest                  a link to the last night that is whole
+    OUT/latest                  a link to the last night that is complete
     OUT/fleet.sqlite            all nights
     OUT/index.html              the last night, for a browser
 

@@ -129,7 +129,7 @@ class FleetPlant:
                 yield f"{self.site}, {period}: {said}"
 
 
-def failed(site: Site, state: str, said: str, run: Run | None = None) -> FleetPlant:
+def failed_plant(site: Site, state: str, said: str, run: Run | None = None) -> FleetPlant:
     """Return a plant without an output."""
     row = FleetRow(site.name, state=state)
     if run is not None and run.status is not None:
@@ -137,7 +137,7 @@ def failed(site: Site, state: str, said: str, run: Run | None = None) -> FleetPl
     return FleetPlant(site.name, [row], [said])
 
 
-def summary(plants: Sequence[FleetPlant]) -> str:
+def plants_summary(plants: Sequence[FleetPlant]) -> str:
     """Return how many plants there are, and how many need a person."""
     wanting = sum(plant.needs for plant in plants)
     count = "1 plant" if len(plants) == 1 else f"{len(plants)} plants"

@@ -14,7 +14,7 @@ from plantbal.fleet.engines import WHY, Ended, Engine, EngineChoice, Job
 from plantbal.fleet.given import Given, SessionTooLarge
 from plantbal.fleet.night import KeptPlant, Night, Run
 from plantbal.fleet.pack import Packer
-from plantbal.fleet.rows import FleetPlant, failed
+from plantbal.fleet.rows import FleetPlant, failed_plant
 from plantbal.fleet.sites import Site
 from plantbal.fleet.taking import Taker
 
@@ -74,10 +74,10 @@ class Fleet:
             try:
                 self.given[site] = Given.read(site.path)
             except SessionTooLarge as fault:
-                self.plants[site.name] = failed(site, "TooLarge", str(fault))
+                self.plants[site.name] = failed_plant(site, "TooLarge", str(fault))
                 return False
             except InputFault as fault:
-                self.plants[site.name] = failed(site, "nosession", str(fault))
+                self.plants[site.name] = failed_plant(site, "nosession", str(fault))
                 return False
             self.runs[site] = self.night.asked_of(site, self.given[site])
         return True
@@ -97,7 +97,7 @@ class Fleet:
         try:
             self.night.begin(site)
         except InputFault as fault:
-            self.plants[site.name] = failed(site, "nooutput", str(fault))
+            self.plants[site.name] = failed_plant(site, "nooutput", str(fault))
             return False
         self.begun.add(site)
         return True
@@ -108,7 +108,7 @@ class Fleet:
         kept = None
         if ended.why:
             self.night.drop(site)
-            self.plants[site.name] = failed(site, ended.why, WHY[ended.why])
+            self.plants[site.name] = failed_plant(site, ended.why, WHY[ended.why])
         else:
             try:
                 run = self.runs[site]
@@ -116,7 +116,9 @@ class Fleet:
                     run = replace(run, program_sha256=ended.program_sha256)
                 kept = self.night.publish(site, run, ended.came)
             except (OSError, InputFault) as error:
-                self.plants[site.name] = failed(site, "nooutput", f"its output is lost: {error}")
+                self.plants[site.name] = failed_plant(
+                    site, "nooutput", f"its output is lost: {error}"
+                )
         self.begun.discard(site)  # not before: Ctrl-C may come at any time
         if kept is not None:
             self.take(site, kept)
@@ -168,7 +170,7 @@ def _load() -> None:
     """Load what writes the night."""
     from plantbal.fleet import index, keep  # noqa: F401
 
-    index.template()
+    index.index_template()
     gc.freeze()  # all this stays, and the garbage collector needn't go through it again
 
 

@@ -42,7 +42,7 @@ from plantbal.fleet.limits import (
     TOLD_BYTES,
 )
 from plantbal.fleet.night import KeptPlant, Night
-from plantbal.fleet.rows import FleetPlant, failed
+from plantbal.fleet.rows import FleetPlant, failed_plant
 from plantbal.fleet.sites import Site
 
 _NO_MEMORY = 6
@@ -241,7 +241,7 @@ class Taker:
                 taken(answer.found)
             else:
                 said = self._said(answer, "its output")
-                taken(failed(site, answer.end.value, said, kept.run))
+                taken(failed_plant(site, answer.end.value, said, kept.run))
 
         self._hand_in(TakingTask(site, night, kept, given), answered)
 

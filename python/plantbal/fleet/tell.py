@@ -10,7 +10,7 @@ import socket
 import sys
 from pathlib import Path
 
-from plantbal.commands.options import seconds_of, whole_of
+from plantbal.commands.options import seconds_of, whole_between
 from plantbal.faults import Fault, FileFault, WordsFault
 from plantbal.files import write_text
 from plantbal.fleet.alarms import age_of
@@ -21,25 +21,25 @@ from plantbal.fleet.mail import (
     Sendmail,
     Smtp,
     address_of,
+    mail_password,
     message_of,
-    password_of,
     send,
 )
 from plantbal.statuses import ExitStatus
 
 HELP = """
 NIGHTS is the folder of all nights, or its night.json. A mail goes out if a plant needs a person, if
-the night ended with another status than 0, or, with --age, if the last night is older than that.
+the night ended with a status other than 0, or, with --age, if the last night is older than that.
 Without --to the mail is written to standard output.
 
-The mail goes to the server of --smtp, or else to the system's sendmail. A server that isn't there,
-or that takes no mail for the moment, is asked again: --tries times in all, after a pause that
-doubles each time. If the mail can't be sent, standard error says why and has its text, and the
+The mail goes to the server of --smtp, or else to the system's sendmail. A server that can't be
+reached, or that takes no mail for the moment, is tried again: --tries times in all, after a pause
+that doubles each time. If the mail can't be sent, standard error says why and has its text, and the
 status is 3. It is 0 if the mail was sent, or if there is nothing to tell.
 
 With --status the status of a night that has just ended is reported too, since a night that fails
-early leaves the night.json of the night before. Under systemd it comes by itself, in the variable
-MONITOR_EXIT_STATUS.
+early leaves the night.json of the night before. Under systemd it needn't be given: it is in the
+variable MONITOR_EXIT_STATUS.
 
 examples:
   plantbal-desk tell /var/lib/plantbal --to accounts@example.org --smtp mail.example.org
@@ -52,22 +52,23 @@ def add_arguments(parser: argparse.ArgumentParser) -> None:
     """Add the words of the command."""
     add = parser.add_argument
     add("nights", metavar="NIGHTS")
-    add("--to", metavar="ADDRESS", action="append", default=[], help="who gets it; may be several")
+    to = "who gets it; may be given more than once"
+    add("--to", metavar="ADDRESS", action="append", default=[], help=to)
     add("--from", metavar="ADDRESS", dest="sender", help="who sends it (default: plantbal@HOST)")
     add("--smtp", metavar="HOST[:PORT]", help="the mail server (default: the system's sendmail)")
-    security = "how the server is spoken to: starttls, tls from the first byte, or none"
+    security = "how to connect to the server: starttls, tls from the first byte, or none"
     add("--security", choices=["none", "starttls", "tls"], default="none", help=security)
-    add("--user", metavar="NAME", default="", help="sign in at the server under this name")
+    add("--user", metavar="NAME", default="", help="sign in to the server with this name")
     password = "the password, in the first line of this file"
     add("--password-file", metavar="FILE", help=password)
     add("--sendmail", metavar="PATH", help=f"the program in place of {SENDMAIL}")
     tries = "try N times in all (default: 5)"
-    add("--tries", metavar="N", type=whole_of(1, 100), default=5, help=tries)
-    pause = "before the second try; twice as many before the third (default: 30)"
+    add("--tries", metavar="N", type=whole_between(1, 100), default=5, help=tries)
+    pause = "wait before the second try; twice as long before the third (default: 30)"
     add("--pause", metavar="SECONDS", type=seconds_of, default=30.0, help=pause)
     add("--age", metavar="AGE", type=age_of, help="send a mail if no night ended for 26h, or 3d")
     status = "the status that the night ended with"
-    add("--status", metavar="N", type=whole_of(0, 255), help=status)
+    add("--status", metavar="N", type=whole_between(0, 255), help=status)
     add("--always", action="store_true", help="send a mail after a good night too")
 
 
@@ -100,7 +101,9 @@ def _sender_of(options: argparse.Namespace) -> Sender:
         raise WordsFault(what, remedy="use --security starttls or tls")
     if bool(options.user) != bool(options.password_file):
         raise WordsFault("--user and --password-file go together", remedy="give both, or neither")
-    return Smtp.of(options.smtp, options.security, options.user, password_of(options.password_file))
+    return Smtp.of(
+        options.smtp, options.security, options.user, mail_password(options.password_file)
+    )
 
 
 def _told(path: Path) -> tuple[NightFile | None, str]:

@@ -9,14 +9,18 @@ from typing import cast
 from plantbal.kinds import State, StreamClass, Verdict
 from plantbal.records import read_records
 from plantbal.report.rows import Values as Values
+from plantbal.sentence import Joined, Sentence, counted
 
 # What the verdict of a global test says.
 _GLOBAL = {
-    "accept": "accepted by the global test",
-    "reject": "rejected by the global test",
-    "undecided": "the global test is undecided",
-    "nocritical": "no global test: no critical value for {dof} of freedom",
-    "notest": "no global test: nothing tests it",
+    "accept": ("accepted by the global test", "accepted by the global test"),
+    "reject": ("rejected by the global test", "rejected by the global test"),
+    "undecided": ("the global test is undecided", "the global test is undecided"),
+    "nocritical": (
+        "no global test: no critical value for 1 degree of freedom",
+        "no global test: no critical value for {count} degrees of freedom",
+    ),
+    "notest": ("no global test: nothing tests it", "no global test: nothing tests it"),
 }
 
 
@@ -203,20 +207,22 @@ class Block:
     def verdict(self) -> str:
         """What it says as a whole: its state, what was taken out before it, and the global test."""
         if self.solved is None:
-            return "cut off"
-        said = self.solved["state"]
+            return Sentence("cut off")
+        said = Sentence(self.solved["state"])
         if self.taken:
-            said += f" after {self.taken_said(self.taken)}"
+            form = "{said} after {taken}"
+            said = Sentence(form, said=said, taken=self.taken_said(self.taken))
         if self.whole is None:
             return said
-        dof = self.solved["dof"]
-        degrees = f"{dof} degree{'' if dof == '1' else 's'}"
-        return f"{said}, {_GLOBAL[self.whole['verdict']].format(dof=degrees)}"
+        one, many = _GLOBAL[self.whole["verdict"]]
+        verdict = counted(int(self.solved["dof"]), one, many)
+        return Sentence("{said}, {verdict}", said=said, verdict=verdict)
 
     def taken_said(self, names: Sequence[str]) -> str:
         """Return that streams were taken out, as a clause."""
-        were = "was" if len(names) == 1 else "were"
-        return f"{', '.join(map(self.shown, names))} {were} taken out"
+        shown = Joined(", ", map(self.shown, names))
+        one, many = "{names} was taken out", "{names} were taken out"
+        return counted(len(names), one, many, names=shown)
 
     def suspects(self) -> list[str]:
         """Return the streams whose measurement test rejects, the greatest statistic first."""

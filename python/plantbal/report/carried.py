@@ -90,4 +90,4 @@ def _fault(carried: Values, flow: Values, error: int = 0) -> str:
         return ""  # nobody knows which way it flows
     if high < -error:
         return "against the direction of the stream"
-    return "more than there is of it" if low > most + error else ""
+    return "more than its whole mass" if low > most + error else ""

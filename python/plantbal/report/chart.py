@@ -17,9 +17,9 @@ from plantbal.statuses import ExitStatus
 
 HELP = """
 OUTPUT is what plantbal wrote, as CSV or as JSON lines; without it standard input is read. Several
-are charted as one, such as the reports of a book; if two have the same period, the later counts.
-The picture goes to standard output as SVG, or to the file of --out as SVG, PNG or PDF by its
-ending.
+are charted as one, such as the reports of a book; if two have the same period, the later one
+counts. The picture goes to standard output as SVG, or to the file of --out as SVG, PNG or PDF by
+its ending.
 
 A row for each meter:
 
@@ -283,7 +283,7 @@ def _name_at(names: list[str]) -> Callable[[float, int], str]:
     return text
 
 
-def chosen(trend: Trend, most: int, names: list[str]) -> list[TrendLine]:
+def chosen_lines(trend: Trend, most: int, names: list[str]) -> list[TrendLine]:
     """Return the lines of the streams that are named, or of the meters that are adjusted most.
 
     Raises
@@ -383,7 +383,7 @@ def run(options: argparse.Namespace) -> int:
     session = b"\n".join(read_session(path)[1] for path in options.session)
     output = read_all(options.outputs or ["-"], "report")
     trend = trend_of(output, session, options.component)
-    lines = chosen(trend, options.most, options.stream)
+    lines = chosen_lines(trend, options.most, options.stream)
     if options.out:
         with replacing(options.out) as made:
             write_chart(trend, lines, made, form)

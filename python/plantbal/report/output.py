@@ -140,7 +140,7 @@ class Output:
     def impossible(self) -> list[str]:
         """Which flows can't be, a sentence each.
 
-        A stream carries more of a component than there is of it, or is booked below 0 by more than
+        A stream carries more of a component than its whole mass, or is booked below 0 by more than
         two standard deviations. The output may be ok all the same: the balances close.
         """
         return list(self._impossible)
@@ -399,7 +399,7 @@ class Output:
         write_sqlite(self.tables(), path)
 
     def to_xlsx(self, path: str | Path) -> None:
-        """Write a workbook with one table a sheet.
+        """Write a workbook with one table per sheet.
 
         The first sheet, `tonnes`, has the flows to book, each with its standard deviation `sd`
         beside it.

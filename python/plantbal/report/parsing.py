@@ -302,7 +302,7 @@ def cut_beside_blocks(rows: Sequence[Values]) -> list[str]:
     return cut
 
 
-def fields_of(values: Values) -> list[str]:
+def csv_fields(values: Values) -> list[str]:
     """Return the fields of a row as the program writes it in CSV."""
     row: Row = schema().output[values["row"]]
     names = row.names if len(values) == len(row.names) + 1 else row.older
@@ -314,6 +314,6 @@ def csv_of(rows: Iterable[Values]) -> str:
     parts, each = [], iter(rows)
     while some := list(islice(each, _ROWS_AT_ONCE)):
         out = io.StringIO()
-        csv.writer(out, lineterminator="\n").writerows(map(fields_of, some))
+        csv.writer(out, lineterminator="\n").writerows(map(csv_fields, some))
         parts.append(out.getvalue())
     return "".join(parts)

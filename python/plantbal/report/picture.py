@@ -56,7 +56,7 @@ MANY = 100
 FAST = {"splines": "line", "nslimit": 1, "nslimit1": 1, "mclimit": 0.1}
 
 
-def quoted(text: str) -> str:
+def quoted_for_graphviz(text: str) -> str:
     """Return a text as Graphviz reads it."""
     escaped = text.replace("\\", "\\\\").replace('"', '\\"')
     return f'"{escaped}"'
@@ -64,7 +64,9 @@ def quoted(text: str) -> str:
 
 def attributes(**values: object) -> str:
     """Return attributes as Graphviz reads them; an underscore at the end of a name is dropped."""
-    said = ", ".join(f"{key.rstrip('_')}={quoted(str(value))}" for key, value in values.items())
+    said = ", ".join(
+        f"{key.rstrip('_')}={quoted_for_graphviz(str(value))}" for key, value in values.items()
+    )
     return f"[{said}]"
 
 
@@ -179,7 +181,7 @@ class Picture:
         if name in self.side:
             look.update(style="filled", fillcolor="#fff0b0")
         said = attributes(id_=self.id_of_node(name), shape=shape, label=label, **look)
-        return f"  {quoted(name)} {said}"
+        return f"  {quoted_for_graphviz(name)} {said}"
 
     def edge(self, number: int, stream: Values) -> list[str]:
         """Return the lines of a stream; its end in `env` is a point or a boundary of its own."""
@@ -195,7 +197,7 @@ class Picture:
                 if stream["name"] in self.outside:
                     look = {"shape": "plaintext", "label": self.outside[stream["name"]]}
                     look |= {"style": "filled", "fillcolor": "#fff0b0"} if filled else {}
-                lines.append(f"  {quoted(ends[-1])} {attributes(**look)}")
+                lines.append(f"  {quoted_for_graphviz(ends[-1])} {attributes(**look)}")
             else:
                 ends.append(stream[place])
         style = STYLES.get(stream["class"])
@@ -208,7 +210,7 @@ class Picture:
             penwidth=max(4, width) if stream["name"] in self.parts else width,
             **({"style": style} if style else {}),
         )
-        lines.append(f"  {quoted(ends[0])} -> {quoted(ends[1])} {said}")
+        lines.append(f"  {quoted_for_graphviz(ends[0])} -> {quoted_for_graphviz(ends[1])} {said}")
         return lines
 
     def dot(self) -> str:
@@ -272,7 +274,7 @@ def advised(rows: Sequence[Values], outside: Mapping[str, str] | None = None) ->
     return Picture(f"{count} to buy, for {total:,}", designs[-1], meters=meters, outside=outside)
 
 
-def chosen(
+def chosen_picture(
     rows: Sequence[Values],
     period: str | None,
     number: int | None,
@@ -375,7 +377,7 @@ def run(options: argparse.Namespace) -> int:
         what = "--advice is for a plant, not for a report"
         raise WordsFault(what, remedy="leave out the options that choose a report")
     asked = options.period, options.round, options.component, options.window
-    picture = advised(rows) if options.advice else chosen(rows, *asked)
+    picture = advised(rows) if options.advice else chosen_picture(rows, *asked)
     if options.session is not None:
         picture.outside = Session.read(options.session).crossings()
     if options.mark is not None:

@@ -64,7 +64,7 @@ def _of_blocks(blocks: Sequence[Block]) -> list[str]:
 
 def impossible_of(blocks: Sequence[Block]) -> list[str]:
     """Return which flows of blocks can't be, a sentence each."""
-    from plantbal.gates import line_of, negative_flows
+    from plantbal.gates import line_of_stop, negative_flows
     from plantbal.report.carried import impossible
 
-    return [*map(line_of, negative_flows(blocks)), *map(str, impossible(blocks))]
+    return [*map(line_of_stop, negative_flows(blocks)), *map(str, impossible(blocks))]

@@ -186,7 +186,7 @@ def with_deviations(
     return table
 
 
-def contents(rows: Sequence[Values]) -> pandas.DataFrame:
+def tank_contents(rows: Sequence[Values]) -> pandas.DataFrame:
     """Return what the tanks of the last window hold, in tonnes, with standard deviations."""
     import pandas
 
@@ -256,13 +256,13 @@ def add_arguments(parser: argparse.ArgumentParser) -> None:
 
 def _write_diagnosed(options: argparse.Namespace, blocks: list[Block]) -> None:
     """Write a table of what is diagnosed, and the session of the days if it is to be kept."""
-    from plantbal.diagnosis.tables import days_kept, rows_of
+    from plantbal.diagnosis.tables import days_kept, diagnosis_rows
     from plantbal.model.ledger import Ledger
 
     if options.keep and not options.session:
         raise WordsFault("--keep needs the session", remedy="use --session FILE too")
     ledger = Ledger(*read_session(options.session)) if options.session else None
-    sys.stdout.write(csv_text(rows_of(options.what, blocks, ledger)))
+    sys.stdout.write(csv_text(diagnosis_rows(options.what, blocks, ledger)))
     if options.keep and ledger is not None:
         write_text(options.keep, days_kept(ledger))
 
@@ -311,7 +311,7 @@ def run(options: argparse.Namespace) -> int:
     elif options.what == "contents":
         if options.component:
             raise WordsFault("contents are only those of a window", remedy="leave --component out")
-        sys.stdout.write(inert_frame(contents(rows)).to_csv())
+        sys.stdout.write(inert_frame(tank_contents(rows)).to_csv())
     elif options.what in ("suspects", "imbalance"):
         blocks = choice.of(rows)
         lines = suspects(blocks) if options.what == "suspects" else imbalances(blocks)

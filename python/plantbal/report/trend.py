@@ -207,12 +207,12 @@ def _hole_of(block: Block) -> str:
     """Return how much is missing in a round that is rejected, and which measurements may be off."""
     from plantbal.diagnosis.diagnose import diagnosis_of
     from plantbal.diagnosis.rounds import one_of_said
-    from plantbal.diagnosis.words import tonnes
+    from plantbal.diagnosis.words import amount_said
 
     if _verdict(block) != "reject":
         return ""
     some = [
-        f"{tonnes(told.hole.size)} at {one_of_said(told.names, block, _MOST_NAMES)}"
+        f"{amount_said(told.hole.size)} at {one_of_said(told.names, block, _MOST_NAMES)}"
         for told in diagnosis_of(block).holes[:_MOST_HOLES]
     ]
     return f"{block.subject}: {'; '.join(some)}" if some else ""

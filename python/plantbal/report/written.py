@@ -36,7 +36,7 @@ def write_sqlite(tables: Mapping[str, pandas.DataFrame], path: str | Path) -> No
 
 
 def write_xlsx(tables: Callable[[], Mapping[str, pandas.DataFrame]], path: str | Path) -> None:
-    """Write a workbook with one table a sheet, whole or not at all.
+    """Write a workbook with one table per sheet, whole or not at all.
 
     Parameters
     ----------

@@ -28,7 +28,7 @@ from plantbal.model.plant import (
 )
 from plantbal.model.remedies import kind_near
 from plantbal.session.builder import Session
-from plantbal.session.values import dates_of_service, grade_of, grade_variance
+from plantbal.session.values import dates_of_service, grade_text, grade_variance
 
 __all__ = [
     "ASKS",
@@ -44,7 +44,7 @@ __all__ = [
     "days_in_service",
     "dip_days",
     "field_fits",
-    "grade_of",
+    "grade_text",
     "grade_variance",
     "in_service",
     "is_served",

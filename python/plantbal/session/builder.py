@@ -4,16 +4,16 @@ from __future__ import annotations
 
 from collections.abc import Mapping
 
-from plantbal.amounts import Day, Tonnes, day_text, decimal_of, whole_of
+from plantbal.amounts import Day, Tonnes, day_as_given, decimal_of, whole_of
 from plantbal.faults import Fault
 from plantbal.kinds import StreamKind, TestKind
 from plantbal.session.rows import SessionRows
 from plantbal.session.values import (
     amount_of,
     dates_of_service,
-    error_of,
-    grade_of,
+    grade_text,
     grade_variance,
+    variance_text,
 )
 
 
@@ -100,7 +100,7 @@ class Session(SessionRows):
             The first and the last day on which it is in service, both counted; without them each
             day. With one of them the session has to be of version 2.
         """
-        base = error_of(variance, deviation_grams, deviation_tonnes)
+        base = variance_text(variance, deviation_grams, deviation_tonnes)
         self.row("tank", name, base, *dates_of_service(since, until))
 
     def strap(self, tank: str, mm: int, ml: int) -> None:
@@ -151,7 +151,7 @@ class Session(SessionRows):
         if kind == "plain" and variance is deviation_grams is deviation_tonnes is None:
             base = "0"
         else:
-            base = error_of(variance, deviation_grams, deviation_tonnes)
+            base = variance_text(variance, deviation_grams, deviation_tonnes)
         self.row("stream", name, from_, to, kind, base, *dates_of_service(since, until))
 
     def period(self, name: str, first: Day, last: Day) -> None:
@@ -164,7 +164,7 @@ class Session(SessionRows):
         first, last : datetime.date or str
             Its days, both counted.
         """
-        self.row("period", name, day_text(first, "FIRST"), day_text(last, "LAST"))
+        self.row("period", name, day_as_given(first, "FIRST"), day_as_given(last, "LAST"))
 
     def critical(
         self,
@@ -232,8 +232,8 @@ class Session(SessionRows):
         late : bool
             Whether it may touch a closed period.
         """
-        row = ("reading", id, stream, day_text(day), amount_of(grams, tonnes))
-        self._fact(row, error_of(variance, deviation_grams, deviation_tonnes), late)
+        row = ("reading", id, stream, day_as_given(day), amount_of(grams, tonnes))
+        self._fact(row, variance_text(variance, deviation_grams, deviation_tonnes), late)
 
     def transfer(
         self,
@@ -262,9 +262,9 @@ class Session(SessionRows):
         grams, tonnes, variance, deviation_grams, deviation_tonnes, late
             As in `reading`.
         """
-        days = day_text(first, "FIRST"), day_text(last, "LAST")
+        days = day_as_given(first, "FIRST"), day_as_given(last, "LAST")
         row = ("transfer", id, stream, *days, amount_of(grams, tonnes))
-        self._fact(row, error_of(variance, deviation_grams, deviation_tonnes), late)
+        self._fact(row, variance_text(variance, deviation_grams, deviation_tonnes), late)
 
     def dip(
         self,
@@ -297,8 +297,8 @@ class Session(SessionRows):
             As in `reading`.
         """
         level = whole_of(mm, "MM"), whole_of(density, "DENSITY")
-        row = ("dip", id, tank, day_text(day), *level)
-        self._fact(row, error_of(variance, deviation_grams, deviation_tonnes), late)
+        row = ("dip", id, tank, day_as_given(day), *level)
+        self._fact(row, variance_text(variance, deviation_grams, deviation_tonnes), late)
 
     def _fact(self, row: tuple[str, ...], variance: str, late: bool) -> None:
         self.row(*(("late",) if late else ()), *row, variance)
@@ -331,7 +331,7 @@ class Session(SessionRows):
         variance, deviation_grams, deviation_tonnes : optional
             As in `reading`.
         """
-        var = error_of(variance, deviation_grams, deviation_tonnes)
+        var = variance_text(variance, deviation_grams, deviation_tonnes)
         if mm is None and density is None:
             self.row("amend", id, amount_of(grams, tonnes), var, reason)
             return
@@ -424,7 +424,7 @@ class Session(SessionRows):
         deviation_ppm, deviation_percent : Decimal, int or str, optional
             The standard deviation of it. Its square is rounded up.
         """
-        grade, spread = grade_of(ppm, percent), grade_variance(
+        grade, spread = grade_text(ppm, percent), grade_variance(
             variance, deviation_ppm, deviation_percent
         )
         self.row("assay", component, stream, period, grade, spread)

@@ -11,7 +11,7 @@ from typing import TYPE_CHECKING, Any
 
 from plantbal.amounts import (
     GRAMS_A_TONNE,
-    day_text,
+    day_as_given,
     decimal_of,
     grams_of,
     grams_of_texts,
@@ -22,7 +22,7 @@ from plantbal.amounts import (
 from plantbal.faults import Fault, InputFault, Place, Refusal
 from plantbal.model.causes import Reason
 from plantbal.memory import uncollected
-from plantbal.session import ENV, dates_of_service, grade_of, grade_variance, most_streams
+from plantbal.session import ENV, dates_of_service, grade_text, grade_variance, most_streams
 
 if TYPE_CHECKING:
     import pandas
@@ -178,10 +178,12 @@ class FrameTable:
             moments = series.to_numpy()
             days, places = numpy.unique(moments, return_inverse=True)
             if (days == days.astype("datetime64[D]")).all():
-                texts = numpy.array([day_text(day) for day in pandas.DatetimeIndex(days)], object)
+                texts = numpy.array(
+                    [day_as_given(day) for day in pandas.DatetimeIndex(days)], object
+                )
                 found: list[str] = texts[places].tolist()
                 return found
-        return self.texts(head, lambda value: day_text(value, head))
+        return self.texts(head, lambda value: day_as_given(value, head))
 
     def services(self) -> list[tuple[str, ...]]:
         """Return the dates of service of each row, as fields; none of a row without a date."""
@@ -229,7 +231,7 @@ class FrameTable:
         head = self.need("ppm", "percent")
         if head == "ppm":
             return self.wholes(head)
-        return self.texts(head, lambda value: grade_of(percent=value))
+        return self.texts(head, lambda value: grade_text(percent=value))
 
     def grade_variances(self) -> list[str]:
         """Return the variances of grades, in squares of parts per million."""

@@ -17,7 +17,7 @@ from plantbal.model.causes import Refused
 from plantbal.model.effects import Effect
 from plantbal.model.facts import At
 from plantbal.model.core import CoreSession, installed_core
-from plantbal.model.file import Rows, Step, fold, steps
+from plantbal.model.file import Coded, Rows, Step, fold, steps
 from plantbal.model.periods import Period
 from plantbal.model.plant import Service
 from plantbal.model.readings import ReadingRows
@@ -242,7 +242,7 @@ class SessionRows:
         return self.strict or not self.refused.is_full
 
     def _taken(
-        self, answered: Iterable[Step | Rows], place: Callable[[At], Place]
+        self, answered: Iterable[Step | Rows | Coded], place: Callable[[At], Place]
     ) -> Iterator[Step | Rows]:
         """Keep the accepted rows and the refused ones, and give each that is accepted."""
         try:
@@ -250,6 +250,9 @@ class SessionRows:
                 if isinstance(step, Rows):
                     self._rows.add(step.rows)
                     yield step
+                elif isinstance(step, Coded):
+                    numbers = (place(At(record)).record for record in step.records)
+                    self.refused.note_all([number or 0 for number in numbers], step.codes)
                 elif isinstance(step.answer, Refused):
                     self._refuse(step.fields, step.answer, place(step.at))
                 else:

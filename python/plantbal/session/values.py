@@ -4,7 +4,7 @@ from __future__ import annotations
 
 import math
 
-from plantbal.amounts import Day, Tonnes, day_text, decimal_of, grams_of, variance_of, whole_of
+from plantbal.amounts import Day, Tonnes, day_as_given, decimal_of, grams_of, variance_of, whole_of
 from plantbal.faults import Fault
 from plantbal.model.forms import FIRST_DAY, LAST_DAY
 
@@ -16,12 +16,12 @@ def dates_of_service(since: Day | None, until: Day | None) -> tuple[str, ...]:
     if since is until is None:
         return ()
     return (
-        day_text(FIRST_DAY if since is None else since, "SINCE"),
-        day_text(LAST_DAY if until is None else until, "UNTIL"),
+        day_as_given(FIRST_DAY if since is None else since, "SINCE"),
+        day_as_given(LAST_DAY if until is None else until, "UNTIL"),
     )
 
 
-def error_of(
+def variance_text(
     variance: int | None, deviation_grams: Tonnes | None, deviation_tonnes: Tonnes | None
 ) -> str:
     """Return a variance in squared grams, given as itself or as a standard deviation."""
@@ -40,7 +40,7 @@ def amount_of(grams: int | None, tonnes: Tonnes | None) -> str:
     return str(grams_of(tonnes))
 
 
-def grade_of(ppm: int | None = None, percent: Tonnes | None = None) -> str:
+def grade_text(ppm: int | None = None, percent: Tonnes | None = None) -> str:
     """Return a grade in parts per million, of which exactly one is given."""
     if (ppm is None) == (percent is None):
         raise Fault("an assay needs ppm, or percent, and not both")

@@ -11,7 +11,7 @@ from collections.abc import Callable, Mapping
 from decimal import ROUND_HALF_EVEN, Decimal
 from typing import TYPE_CHECKING, Any
 
-from plantbal.amounts import day_text, decimal_of
+from plantbal.amounts import day_as_given, decimal_of
 from plantbal.faults import Fault, InputFault, Place
 
 if TYPE_CHECKING:
@@ -102,7 +102,7 @@ def _long(frame: pandas.DataFrame, tags: Mapping[str, str]) -> pandas.DataFrame:
 def _label(day: Any) -> str:
     """Return how a row of a day is called."""
     try:
-        return day_text(day)
+        return day_as_given(day)
     except Fault:
         return str(day)
 

@@ -18,7 +18,7 @@ from pathlib import Path
 from plantbal.faults import Fault, InputFault, Place, read_bytes
 from plantbal.limits import SIGNATURE_BYTES
 from plantbal.signing.signers import Scheme, Signer, fingerprint, signers_text
-from plantbal.signing.tools import called, said_last
+from plantbal.signing.tools import call_tool, said_last
 
 # What a signature may be for: one of a record of a book isn't one of a bundle.
 BOOK, BUNDLE = "plantbal-book", "plantbal-bundle"
@@ -143,11 +143,11 @@ def sign(data: bytes, key: str | Path, use: str) -> str:
                 "-t",
                 use,
             ]
-            done = called("minisign", words, asks=True)
+            done = call_tool("minisign", words, asks=True)
         else:
             made = path.with_suffix(".sig")
             words = ["ssh-keygen", "-q", "-Y", "sign", "-f", source, "-n", use, path]
-            done = called("openssh-client", words, asks=True)
+            done = call_tool("openssh-client", words, asks=True)
         if done.returncode == 0 and made.is_file():
             return made.read_text("ascii")
     raise Fault(
@@ -248,14 +248,14 @@ def _doubt_of_openssh(
         words: list[str | Path] = ["ssh-keygen", "-Y", "verify", "-f", room / "allowed"]
         words += ["-I", signer.name, "-n", use, "-s", room / "signature"]
         words += ["-O", f"verify-time={when.strftime(_TIME)}"]
-        plain = called("openssh-client", words, data).returncode == 0
+        plain = call_tool("openssh-client", words, data).returncode == 0
         if not plain:
             return Doubt.WRONG
         revoked = _of_openssh(keys.revoked)
         if not revoked:
             return None
         (room / "revoked").write_text(revoked, "utf-8")
-        done = called("openssh-client", [*words, "-r", room / "revoked"], data)
+        done = call_tool("openssh-client", [*words, "-r", room / "revoked"], data)
     return None if done.returncode == 0 else Doubt.REVOKED
 
 
@@ -276,7 +276,7 @@ def _doubt_of_minisign(
         (room / "signature").write_text(signature, "utf-8")
         words = ["minisign", "-V", "-Q", "-P", signer.key]
         words += ["-m", str(room / "signed"), "-x", str(room / "signature")]
-        done = called("minisign", words)
+        done = call_tool("minisign", words)
     if done.returncode != 0:
         return Doubt.WRONG
     if done.stdout.decode("utf-8", "replace").strip() != use:

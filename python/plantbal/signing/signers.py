@@ -73,12 +73,12 @@ class Signer:
 
     def is_valid(self, when: datetime.datetime) -> bool:
         """Say whether the key may be used at a time."""
-        after, before = time_of(self.after), time_of(self.before)
+        after, before = signers_time(self.after), signers_time(self.before)
         return (after is None or when >= after) and (before is None or when < before)
 
     def since(self) -> str:
         """Return in words since when the key may be used, and up to when."""
-        after, before = time_of(self.after), time_of(self.before)
+        after, before = signers_time(self.after), signers_time(self.before)
         words = f"allowed since {after:%Y-%m-%d}" if after else "allowed without a first day"
         return f"{words}, up to {before:%Y-%m-%d}" if before else words
 
@@ -99,7 +99,7 @@ def fingerprint(scheme: Scheme, key: bytes) -> str:
     return f"SHA256:{digest.rstrip('=')}"
 
 
-def time_of(text: str) -> datetime.datetime | None:
+def signers_time(text: str) -> datetime.datetime | None:
     """Return a time of the file, in UTC; None without a text."""
     if not text:
         return None
@@ -193,7 +193,7 @@ def _options(word: str) -> dict[str, str]:
         if name != "namespaces":
             if not _DAY.fullmatch(value):
                 raise ValueError(f"{name} is {value!r}, and isn't a day such as 20240101")
-            time_of(value)
+            signers_time(value)
     return found
 
 

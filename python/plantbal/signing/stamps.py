@@ -18,7 +18,7 @@ from pathlib import Path
 
 from plantbal.faults import Fault
 from plantbal.limits import STAMP_BYTES
-from plantbal.signing.tools import called, said_last
+from plantbal.signing.tools import call_tool, said_last
 
 _SECONDS = 30.0
 
@@ -71,7 +71,7 @@ def stamp(data: bytes, server: str) -> str:
     with tempfile.TemporaryDirectory() as name:
         path = Path(name) / "data"
         path.write_bytes(data)
-        asked = called("openssl", ["openssl", "ts", "-query", "-data", path, "-sha256", "-cert"])
+        asked = call_tool("openssl", ["openssl", "ts", "-query", "-data", path, "-sha256", "-cert"])
         if asked.returncode != 0:
             raise Fault(f"openssl couldn't make the request: {said_last(asked)}")
     head = {"Content-Type": "application/timestamp-query"}
@@ -115,7 +115,7 @@ def stamped(data: bytes, token: str, authority: str) -> Stamped:
         (room / "authority").write_text(authority, "utf-8")
         words: list[str | Path] = ["openssl", "ts", "-verify", "-data", room / "data"]
         words += ["-in", room / "token", "-CAfile", room / "authority"]
-        done = called("openssl", words)
+        done = call_tool("openssl", words)
     when = _time_in(answer)
     if done.returncode != 0 or when is None:
         return Stamped(None, "it doesn't fit, or isn't of the authority that is named")
@@ -127,7 +127,7 @@ def _time_in(answer: bytes) -> datetime.datetime | None:
     with tempfile.TemporaryDirectory() as name:
         path = Path(name) / "token"
         path.write_bytes(answer)
-        done = called("openssl", ["openssl", "ts", "-reply", "-in", path, "-text"])
+        done = call_tool("openssl", ["openssl", "ts", "-reply", "-in", path, "-text"])
     found = _TIME.search(done.stdout.decode("ascii", "replace"))
     if done.returncode != 0 or found is None:
         return None

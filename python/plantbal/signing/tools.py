@@ -13,7 +13,7 @@ from plantbal.faults import ProgramFault, ToolMissing
 _SECONDS = 60.0
 
 
-def called(
+def call_tool(
     package: str, words: Sequence[str | Path], data: bytes = b"", *, asks: bool = False
 ) -> subprocess.CompletedProcess[bytes]:
     """Call a program, and return how it ended.

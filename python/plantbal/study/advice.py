@@ -37,12 +37,12 @@ its cycle: they stay without a meter, and none of them costs less. With --form c
 stream, cost and cycle; with --draw the plant is drawn, with the streams to meter in violet.
 
 With --period the flows and grades of a period of the session are looked at, with the errors of
-meters and assays, and all comes with ± of both; this part isn't proved. --add and --lose say what
-the ± of every flow and grade would be with one more meter or assay, or one fewer; no reading is needed.
-COSTS has the columns stream, component (empty for a meter), cost and error then, and the cheapest
-of these offers are chosen: for a ± (--want), to keep every flow known if any one meter or assay
-fails (--redundant), or for the least ± that a budget buys (--budget). --draw draws ± before and
-after. The proved advice comes after it, for meters alone and for observability alone.
+meters and assays, and each has its ± from both; this part isn't proved. --add and --lose say what
+the ± of every flow and grade would be with one more meter or assay, or one fewer; no reading is
+needed. COSTS then has the columns stream, component (empty for a meter), cost and error, and the
+cheapest of these offers are chosen: for a ± (--want), to keep every flow known if any one meter or
+assay fails (--redundant), or for the least ± that a budget buys (--budget). --draw draws ± before
+and after. The proved advice comes after it, for meters alone and for observability alone.
 
 examples:
   plantbal-desk advise plant.csv costs.csv --draw meters.svg
@@ -92,7 +92,7 @@ class Advice:
             yield f"{name:{names}}  {cost:{costs},}  on its cycle: {said}"
 
 
-def plant_of(source: str, data: bytes) -> Session:
+def plant_session(source: str, data: bytes) -> Session:
     """Return the plant of a session: its rows that declare boundaries, units, tanks and streams.
 
     Raises
@@ -234,7 +234,7 @@ def _plan(options: argparse.Namespace, source: str, data: bytes, plant: Session)
 def run(options: argparse.Namespace) -> int:
     """Write which streams to meter."""
     source, data = read_session(options.session)
-    plant = plant_of(source, data)
+    plant = plant_session(source, data)
     if options.period:
         return _plan(options, source, data, plant)
     costs = read_costs(options.costs, plant, options.locale) if options.costs else {}

@@ -16,7 +16,7 @@ from plantbal.study.plant import NumberedPlant, plant_of
 from plantbal.study.prices import UNIT, dual_flow, prices_of
 
 
-def up(number: int, by: int) -> int:
+def rounded_up(number: int, by: int) -> int:
     """Return a quotient, rounded up."""
     return -(-number // by)
 
@@ -26,7 +26,7 @@ def scaled_root(variance: int) -> int:
     return isqrt(variance << 40)
 
 
-def flows_of(plant: NumberedPlant, prices: list[int]) -> list[int]:
+def whole_flows(plant: NumberedPlant, prices: list[int]) -> list[int]:
     """Return whole flows that balance: rounded outside the forest, and by balance within it."""
     flows = [0] * len(plant.ends)
     for j in plant.measured:
@@ -67,7 +67,7 @@ def gap_of(plant: NumberedPlant, prices: list[int], flows: list[int]) -> tuple[i
     """Return g and h: the flows are at most g * 2^h / 2^20 standard deviations from the exact
     ones."""
     parts = [
-        up(
+        rounded_up(
             abs(flows[j] * UNIT - dual_flow(plant, prices, j)),
             scaled_root(plant.variance[j]) << 16,
         )
@@ -76,10 +76,10 @@ def gap_of(plant: NumberedPlant, prices: list[int], flows: list[int]) -> tuple[i
     h = 0
     while any(part > 2 ** (57 + h) for part in parts):
         h += 1
-    return root_up(sum(up(part, 2**h) ** 2 for part in parts)), h
+    return root_up(sum(rounded_up(part, 2**h) ** 2 for part in parts)), h
 
 
-def members_of(plant: NumberedPlant, stream: Values) -> list[tuple[int, int]] | None:
+def signed_members(plant: NumberedPlant, stream: Values) -> list[tuple[int, int]] | None:
     """Return the measured streams of which a flow is the sum, each with its sign, or None.
 
     A measured stream is its own, an observable one the sum of the other members of its cut; nothing
@@ -97,19 +97,21 @@ def members_of(plant: NumberedPlant, stream: Values) -> list[tuple[int, int]] | 
     return [(-own * sign, place) for sign, place in parts if place != j]
 
 
-def bounds_of(
+def stream_bounds(
     plant: NumberedPlant, prices: list[int], flows: list[int], stream: Values, g: int, h: int
 ) -> tuple[int, int, int, int] | None:
     """Return the bounds and the least bounds of a stream, or None if nothing determines it."""
-    members = members_of(plant, stream)
+    members = signed_members(plant, stream)
     if members is None:
         return None
     total = sum(sign * dual_flow(plant, prices, place) for sign, place in members)
     flow = sum(sign * flows[place] for sign, place in members)
     root = scaled_root(sum(plant.variance[place] for _, place in members)) + 1
-    half = up(root * g << h, 2**40) if members else 0
-    below, above = total // UNIT, up(total, UNIT)
-    least = (flow + below) // 2 - up(half, 2), up(flow + above, 2) + up(half, 2)
+    half = rounded_up(root * g << h, 2**40) if members else 0
+    below, above = total // UNIT, rounded_up(total, UNIT)
+    least = (flow + below) // 2 - rounded_up(half, 2), rounded_up(flow + above, 2) + rounded_up(
+        half, 2
+    )
     return below - half, above + half, *least
 
 
@@ -121,13 +123,13 @@ def statistic_of(plant: NumberedPlant, flows: list[int], g: int, h: int) -> tupl
     ]
     least = sum(min(number // (root + 1), 2**52) ** 2 for number, root in away)
     low = 0 if g << h > 2**57 else max(0, 1000 * (least - (g << h) ** 2) >> 40)
-    most = [up(number, root) for number, root in away]
+    most = [rounded_up(number, root) for number, root in away]
     if any(part > 2**52 for part in most):
         return low, None
-    return low, up(1000 * sum(part**2 for part in most), 2**40)
+    return low, rounded_up(1000 * sum(part**2 for part in most), 2**40)
 
 
-def verdict_of(low: int, high: int | None, dof: int, critical: str) -> str:
+def global_verdict(low: int, high: int | None, dof: int, critical: str) -> str:
     """Return the verdict of the global test."""
     if dof == 0:
         return "notest"
@@ -154,7 +156,7 @@ class SeenCritical:
     nodal: str = ""
 
 
-def critical_values(data: bytes, refused: set[int]) -> list[SeenCritical]:
+def seen_critical(data: bytes, refused: set[int]) -> list[SeenCritical]:
     """Return the critical values that stand before each row of a session that asks for flows.
 
     Parameters
@@ -184,7 +186,7 @@ def test_rows(
 ) -> list[Values]:
     """Return the rows of the global test and of the nodal tests."""
     limit = critical.whole.get(dof, "")
-    verdict = verdict_of(low, high, dof, limit)
+    verdict = global_verdict(low, high, dof, limit)
     rows: list[Values] = [{"row": "global", "critical": limit, "verdict": verdict}]
     net: dict[int, int] = {}
     variance: dict[int, int] = {}
@@ -232,7 +234,7 @@ class BlockSolution:
     def by_scipy(cls, plant: NumberedPlant) -> BlockSolution:
         """Return the solution of a plant by scipy."""
         prices = prices_of(plant)
-        return cls(prices, flows_of(plant, prices))
+        return cls(prices, whole_flows(plant, prices))
 
 
 def is_met(block: Block, g: int, h: int) -> bool:
@@ -279,7 +281,7 @@ def solved_rows(
         for name, price in zip(plant.names, prices)
     ]
     for j, stream in enumerate(plant.streams):
-        bounds = bounds_of(plant, prices, flows, stream, g, h)
+        bounds = stream_bounds(plant, prices, flows, stream, g, h)
         texts = [""] * 4 if bounds is None else [str(bound) for bound in bounds]
         said = flows[j] + (change[1] if change and change[0] == stream["name"] else 0)
         row = dict(stream, flow=str(said), **dict(zip(("lo", "hi", "least_lo", "least_hi"), texts)))

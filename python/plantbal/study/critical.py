@@ -57,7 +57,7 @@ def tests(text: str) -> int:
     return int(text)
 
 
-def thousandths(of_level: float, dof: int) -> int:
+def chi_squared_thousandths(of_level: float, dof: int) -> int:
     """Return the critical value of chi-squared in thousandths.
 
     Parameters
@@ -68,10 +68,10 @@ def thousandths(of_level: float, dof: int) -> int:
         The degrees of freedom.
     """
     try:
-        from scipy.stats import chi2
+        from scipy.special import chdtri
     except ImportError as error:
         raise ToolMissing("scipy", "python3-scipy") from error
-    return round(1000 * float(chi2.isf(of_level, dof)))
+    return round(1000 * float(chdtri(dof, of_level)))
 
 
 def of_each(of_all: float, count: int) -> float:
@@ -101,11 +101,11 @@ def values_of(
     """
     most = min(2 * len(kinds), schema().limits["most_freedom"])
     for dof in range(1, most + 1):
-        yield "critical", "global", str(dof), str(thousandths(of_all, dof))
+        yield "critical", "global", str(dof), str(chi_squared_thousandths(of_all, dof))
     measured = kinds.count("tank") + sum(row[4] != "plain" for row in streams)
     for test, count in (("nodal", len(kinds)), ("measure", measured)):
         if count:
-            yield "critical", test, str(thousandths(of_each(of_all, count), 1))
+            yield "critical", test, str(chi_squared_thousandths(of_each(of_all, count), 1))
 
 
 def add_arguments(parser: argparse.ArgumentParser) -> None:
@@ -113,7 +113,8 @@ def add_arguments(parser: argparse.ArgumentParser) -> None:
     parser.add_argument("level", metavar="LEVEL", type=level)
     parser.add_argument("dof", metavar="DOF", nargs="*", type=degrees)
     parser.add_argument("--nodal", metavar="N", type=tests, help="how many nodes are tested")
-    parser.add_argument("--measure", metavar="N", type=tests, help="how many measured streams are")
+    measure = "how many measured streams are tested"
+    parser.add_argument("--measure", metavar="N", type=tests, help=measure)
     parser.set_defaults(error=parser.error)
 
 
@@ -122,9 +123,9 @@ def run(options: argparse.Namespace) -> int:
     if not (options.dof or options.nodal or options.measure):
         options.error("give degrees of freedom, --nodal or --measure")
     for dof in sorted({dof for some in options.dof for dof in some}):
-        print(f"critical,global,{dof},{thousandths(options.level, dof)}")
+        print(f"critical,global,{dof},{chi_squared_thousandths(options.level, dof)}")
     for kind in ("nodal", "measure"):
         count = getattr(options, kind)
         if count:
-            print(f"critical,{kind},{thousandths(of_each(options.level, count), 1)}")
+            print(f"critical,{kind},{chi_squared_thousandths(of_each(options.level, count), 1)}")
     return ExitStatus.GOOD

@@ -22,7 +22,7 @@ from typing import Any
 from plantbal.amounts import GRAMS_A_TONNE, decimal_of, tonnes_text
 from plantbal.faults import Fault, InputFault, Place
 from plantbal.report.blocks import Block
-from plantbal.study.certificate import BlockSolution, balanced, gap_of, is_met, members_of
+from plantbal.study.certificate import BlockSolution, balanced, gap_of, is_met, signed_members
 from plantbal.study.plant import NumberedPlant, grounds_of, plant_of
 from plantbal.study.prices import UNIT, prices_of, require_fit
 from plantbal.study.uncertified import Uncertified
@@ -153,7 +153,7 @@ def _require_near(
     """
     gap = int(block.head["gap"])
     for stream in plant.streams:
-        members = members_of(plant, stream)
+        members = signed_members(plant, stream)
         name = stream["name"]
         if members is None or name not in given:
             continue

@@ -59,7 +59,7 @@ def prices_of(plant: NumberedPlant) -> list[int]:
         scale = 1 / numpy.sqrt(matrix.diagonal())
         solver = linalg.splu((sparse.diags(scale) @ matrix @ sparse.diags(scale)).tocsc())
         for _ in range(MOST_REFINEMENTS):
-            left = imbalances(plant, between, at, prices)
+            left = group_imbalances(plant, between, at, prices)
             size = max(abs(number) for number in left)
             shift = max(0, size.bit_length() - 900)
             right = numpy.array([float(number >> shift) for number in left])
@@ -88,7 +88,7 @@ def require_fit(plant: NumberedPlant, prices: list[int]) -> None:
             raise Fault(f"the multipliers at the ends of {name} are too far apart for prices")
 
 
-def imbalances(
+def group_imbalances(
     plant: NumberedPlant, between: list[tuple[int, int, int]], at: dict[int, int], prices: list[int]
 ) -> list[int]:
     """Return what the flows of the prices leave over in each free group, in units of 2^-56

@@ -27,8 +27,8 @@ from plantbal.study.recovery import (
     strange_gains,
     together,
 )
-from plantbal.study.recovery_chart import write_chart
-from plantbal.study.uncertainty import text_of
+from plantbal.study.recovery_chart import write_recovery_chart
+from plantbal.study.uncertainty import table_text
 
 HELP = """
 OUTPUT is what plantbal wrote for a session with assays and component rows, as CSV or as JSON
@@ -37,8 +37,8 @@ used.
 
 There is a row for each stream that enters or leaves the plant, and for what each tank gained: how
 much of the component it carries in tonnes, with its standard deviation, and what share that is of
-what came in. The share of a product is its recovery. At the end come the same rows for all periods
-together. A stream that nothing determines has no figure.
+what came in. The share of a product is its recovery. The same rows for all periods together come at
+the end. A stream that nothing determines has no figure.
 
 With --feed the shares are of what that stream carries, such as the feed of a mill that has a
 stockpile before it. A stream that --product names is in the table too, wherever it flows.
@@ -46,8 +46,8 @@ stockpile before it. A stream that --product names is in the table too, wherever
 Beside it is the grade, what the stream carries in parts of its flow, and by how much that is off
 the assay, in standard deviations of the assay. All standard deviations are from the errors of
 assays and meters. If OUTPUT has no report of the period, they are of the assays alone, and standard
-error says so. It also says which streams carry more of a component than there is of them, and if
-what a tank gained has another grade than what flows there.
+error says so. It also says which streams carry more of a component than their whole mass, and if
+what a tank gained has a different grade from what flows there.
 
   text   tonnes and percent, as a table to be read
   csv    grams, and shares as fractions, with all digits
@@ -177,7 +177,7 @@ def _chart(options: argparse.Namespace, output: Output, shares: Sequence[Share])
     trend = trend_of(output, session, components[0])
     products = products_of(shares, options.product)
     with replacing(options.chart) as made:
-        write_chart(trend, shares, products, made, form)
+        write_recovery_chart(trend, shares, products, made, form)
 
 
 def run(options: argparse.Namespace) -> int:
@@ -208,7 +208,7 @@ def run(options: argparse.Namespace) -> int:
             text = inert_frame(pandas.DataFrame(_data(rows))).to_csv(index=False)
         else:
             left = {"component", "period", "stream", "way"}
-            text = text_of(pandas.DataFrame(lines_of_shares(rows)), left)
+            text = table_text(pandas.DataFrame(lines_of_shares(rows)), left)
     sys.stdout.write(text)
     strange = [line for balance in balances for line in strange_gains(balance)]
     for line in [*_not_known(balances), *_exact(balances), *output.impossible, *strange]:

@@ -26,7 +26,7 @@ _LOOKS = (
 )
 
 
-def write_chart(
+def write_recovery_chart(
     trend: Trend, shares: Sequence[Share], products: Sequence[str], out: Path, form: str
 ) -> None:
     """Write the chart of a component's recovery.

@@ -18,7 +18,7 @@ from plantbal.report.frames import whole_numbers
 from plantbal.report.output import Output
 from plantbal.runs import check, run, session_bytes
 from plantbal.session import Session
-from plantbal.study.certificate import SeenCritical, critical_values, solved_rows
+from plantbal.study.certificate import SeenCritical, seen_critical, solved_rows
 from plantbal.study.figures import Figures
 from plantbal.study.uncertified import Uncertified
 
@@ -61,7 +61,7 @@ def solve(
 ) -> Output:
     """Reconcile a session by another engine, certified by the program.
 
-    It serves plants on which sweeps don't converge, such as long lines of units with equal meters.
+    It is for plants on which sweeps don't converge, such as long lines of units with equal meters.
     Tests of single measurements and elimination need the program's own solver, and aren't made.
 
     Parameters
@@ -234,7 +234,7 @@ def _critical(output: Output, data: bytes, tests: bool) -> list[SeenCritical | N
     """Return the critical values of each block; None without tests."""
     if not tests:
         return [None] * len(output.blocks_in_order)
-    values = critical_values(data, set(output.refused["at"]))
+    values = seen_critical(data, set(output.refused["at"]))
     asked = [row for row in output.rows if row["row"] in ("report", "over")]
     return [values[place] for place, row in enumerate(asked) if row["row"] == "report"]
 

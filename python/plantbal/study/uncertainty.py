@@ -8,8 +8,8 @@ from __future__ import annotations
 
 import argparse
 import sys
-from collections.abc import Collection, Iterable
-from typing import TYPE_CHECKING, Any
+from collections.abc import Collection, Iterable, Iterator
+from typing import TYPE_CHECKING, Any, NamedTuple
 
 from plantbal.amounts import tonnes_text
 from plantbal.faults import InputFault, ToolMissing
@@ -50,6 +50,9 @@ COLUMNS = (
     *(column for rank in _RANKS for column in (rank, f"{rank}_share")),
 )
 _TEXTS = ("period", "name", "class", *_RANKS)
+# So many flows are asked at once: each takes a number for each meter, and all of a large plant
+# together would take hundreds of megabytes.
+_AT_ONCE = 250
 # A meter with a smaller share isn't named.
 _LEAST_SHARE = 1e-6
 # A stream whose variance is this many times the least one is strong.
@@ -96,17 +99,28 @@ def uncertainty_of(found: Output | Block | Iterable[Block]) -> pandas.DataFrame:
     """
     import pandas
 
+    if isinstance(found, Output):
+        found = found.blocks_in_order
+    table = pandas.DataFrame(
+        flows_known([found] if isinstance(found, Block) else found), columns=list(COLUMNS)
+    )
+    kinds = {name: int if name in ("block", "round") else float for name in COLUMNS}
+    return table.astype({name: kind for name, kind in kinds.items() if name not in _TEXTS})
+
+
+def flows_known(blocks: Iterable[Block]) -> list[KnownFlow]:
+    """Return the same rows as a list, for a page that needs no table.
+
+    Raises
+    ------
+    ToolMissing
+        If scipy isn't installed.
+    """
     try:
         import scipy  # noqa: F401
     except ImportError as error:
         raise ToolMissing("scipy", "python3-scipy") from error
-    if isinstance(found, Output):
-        found = found.blocks_in_order
-    blocks = [found] if isinstance(found, Block) else found
-    rows = [row for block in blocks if block.ended for row in _rows_of(block)]
-    table = pandas.DataFrame(rows, columns=list(COLUMNS))
-    kinds = {name: int if name in ("block", "round") else float for name in COLUMNS}
-    return table.astype({name: kind for name, kind in kinds.items() if name not in _TEXTS})
+    return [row for block in blocks if block.ended for row in _rows_of(block)]
 
 
 def last_of_each_period(output: Output) -> pandas.DataFrame:
@@ -146,36 +160,63 @@ def _known(block: Block) -> list[Values]:
     return [stream for stream in block.streams if stream["class"] != "unobservable"]
 
 
-def _rows_of(block: Block) -> list[tuple[Any, ...]]:
-    """Return the rows of a block."""
+class KnownFlow(NamedTuple):
+    """How good a flow is: a row of the table, whose columns have the same names in their order."""
+
+    block: int
+    period: str
+    round: int
+    name: str
+    class_: str
+    sd: float
+    meter_sd: float
+    gain: float
+    first: str = ""
+    first_share: float = _NAN
+    second: str = ""
+    second_share: float = _NAN
+    third: str = ""
+    third_share: float = _NAN
+
+
+def _rows_of(block: Block) -> Iterator[KnownFlow]:
+    """Give the rows of a block."""
     import numpy
 
     asked = _known(block)
     if not asked:
-        return []
+        return
     plant = plant_in(block)
     variance = numpy.array([float(plant.variance[j]) for j in plant.measured])
+    answers = Answers(plant, variance)
+    for begin in range(0, len(asked), _AT_ONCE):
+        yield from _some_rows(block, plant, asked[begin : begin + _AT_ONCE], answers)
+
+
+def _some_rows(
+    block: Block, plant: NumberedPlant, asked: list[Values], answers: Answers
+) -> Iterator[KnownFlow]:
+    """Give the rows of some streams of a block."""
+    variance = answers.variance
     weights = _weights(plant, asked)
-    parts = answers_to(plant, variance, weights) ** 2 * variance[:, None]
+    parts = answers.to(weights) ** 2 * variance[:, None]
     total, before = parts.sum(axis=0), weights.power(2).T @ variance
     total[total <= _NOTHING**2 * before] = 0.0
     leading = _greatest(parts)
     names = [plant.streams[j]["name"] for j in plant.measured]
-    rows = []
     for place, stream in enumerate(asked):
         sd, meter_sd, gain = float(total[place]) ** 0.5, _NAN, _NAN
         if stream["value"]:
             meter_sd = float(before[place]) ** 0.5
             sd = min(sd, meter_sd)
             gain = 1 - sd / meter_sd
-        shares: list[str | float] = []
-        for row in (rows_of[place] for rows_of in leading):
+        shares: dict[str, Any] = {}
+        for rank, row in zip(_RANKS, (rows_of[place] for rows_of in leading)):
             share = float(parts[row, place] / total[place]) if sd else 0.0
-            shares += [names[row], share] if share > _LEAST_SHARE else ["", _NAN]
-        shares += ["", _NAN] * (MOST_METERS - len(leading))
+            if share > _LEAST_SHARE:
+                shares |= {rank: names[row], f"{rank}_share": share}
         head = (block.number, block.subject, block.round, stream["name"], stream["class"])
-        rows.append((*head, sd, meter_sd, gain, *shares))
-    return rows
+        yield KnownFlow(*head, sd, meter_sd, gain, **shares)
 
 
 def _greatest(parts: Any) -> list[Any]:
@@ -261,21 +302,43 @@ def answers_to(plant: NumberedPlant, variance: Any, weights: Any) -> Any:
     streams of small variance say is lost beside the others. So the balance of a node is added up
     with those of the nodes that strong streams hang on it; then these no longer stand in it.
     """
-    from scipy.sparse import diags, linalg
+    return Answers(plant, variance).to(weights)
 
-    ends = _incidence(plant) @ _together(plant, variance)
-    if not ends.shape[1]:
-        return weights.toarray()
-    matrix = ends.T @ diags(variance) @ ends
-    scale = diags(1 / matrix.diagonal() ** 0.5)
-    solver = linalg.splu(
-        (scale @ matrix @ scale).tocsc(),
-        permc_spec="MMD_AT_PLUS_A",
-        diag_pivot_thresh=0.0,
-        options={"SymmetricMode": True},
-    )
-    right = scale @ ends.T @ diags(variance) @ weights
-    return weights.toarray() - ends @ (scale @ solver.solve(right.toarray()))
+
+class Answers:
+    """The answers of a plant's flows, as `answers_to` gives them, factorised once.
+
+    Parameters
+    ----------
+    plant : NumberedPlant
+        The plant.
+    variance : array
+        The variances of the measured streams.
+    """
+
+    def __init__(self, plant: NumberedPlant, variance: Any) -> None:
+        from scipy.sparse import diags, linalg
+
+        self.variance = variance
+        self._ends = _incidence(plant) @ _together(plant, variance)
+        if not self._ends.shape[1]:
+            return
+        matrix = self._ends.T @ diags(variance) @ self._ends
+        self._scale = diags(1 / matrix.diagonal() ** 0.5)
+        self._right = self._scale @ self._ends.T @ diags(variance)
+        self._solver = linalg.splu(
+            (self._scale @ matrix @ self._scale).tocsc(),
+            permc_spec="MMD_AT_PLUS_A",
+            diag_pivot_thresh=0.0,
+            options={"SymmetricMode": True},
+        )
+
+    def to(self, weights: Any) -> Any:
+        """Return how each flow that is asked answers to one more gram of each meter."""
+        if not self._ends.shape[1]:
+            return weights.toarray()
+        found = self._solver.solve((self._right @ weights).toarray())
+        return weights.toarray() - self._ends @ (self._scale @ found)
 
 
 def _columns(plant: NumberedPlant) -> list[int]:
@@ -375,7 +438,7 @@ def in_tonnes(output: Output, table: pandas.DataFrame) -> pandas.DataFrame:
     return pandas.DataFrame(lines)
 
 
-def text_of(table: pandas.DataFrame, left: Collection[str] = _WORDS) -> str:
+def table_text(table: pandas.DataFrame, left: Collection[str] = _WORDS) -> str:
     """Return a table as lines of text, numbers to the right, columns of words to the left."""
     columns = []
     for name in table.columns:
@@ -401,6 +464,6 @@ def run(options: argparse.Namespace) -> int:
     elif options.form == "json":
         text = table.to_json(orient="records", indent=1, force_ascii=False) + "\n"
     else:
-        text = text_of(in_tonnes(output, table))
+        text = table_text(in_tonnes(output, table))
     sys.stdout.write(text)
     return ExitStatus.GOOD

@@ -15,7 +15,7 @@ def call(*words: object, allowed: tuple[int, ...] = (0,), command: str = "book")
     parser = desk.parser_of(own, f"plantbal-desk {command}")
     with contextlib.redirect_stdout(out), contextlib.redirect_stderr(err):
         try:
-            status = desk.call(parser, [str(word) for word in words])
+            status = desk.run_words(parser, [str(word) for word in words])
         except SystemExit as ended:
             status = int(ended.code or 0)
     assert status in allowed, f"{words}: {out.getvalue()}{err.getvalue()}"

@@ -89,8 +89,9 @@ class Commands:
     def window(self, first: str, last: str) -> None:
         self._call("window", first, last)
 
-    def post(self, period: str) -> None:
-        self._call("posted", period)
+    def post(self, period: str, reasons: Mapping[str, str] | None = None) -> None:
+        words = [f"{gate}={why}" for gate, why in (reasons or {}).items()]
+        self._call("posted", period, *[w for word in words for w in ("--anyway", word)])
 
 
 class Browser:
@@ -201,7 +202,7 @@ class Browser:
         self.drop(workbook)
         self.press("Begin")
         assert "how it is read" in self.text(), self.text()
-        self.press("Begin the book so")
+        self.press("Begin the book this way")
         self.plant = self.book.name
         assert "what it would do" in self.text(), self.text()
         self.press("Book it")
@@ -221,12 +222,12 @@ class Browser:
         self.open("enter/")
         self.drop(workbook)
         self.fill("locale", locale)
-        self.press("Look at it")
+        self.press("Preview")
 
     def add(self, workbook: Path, locale: str = "", why: str = "", strike: bool = False) -> None:
         self.look_at(workbook, locale)
         if strike:
-            self.link("Look with them struck")
+            self.link("Preview with them struck")
         if why:
             self.fill("why", why)
         self.press("Book it")
@@ -259,9 +260,9 @@ class Browser:
         self.press("Book it")
         assert f"/fact/{year}/" in self.driver.current_url, self.text()
 
-    def gates_of(self, period: str) -> dict[str, str]:
-        """A reason for each gate that a close asks for."""
-        self.open(f"correct/{period}/close")
+    def gates_of(self, period: str, page: str = "correct/{}/close") -> dict[str, str]:
+        """A reason for each gate that a close, or another page with a decision, asks for."""
+        self.open(page.format(period))
         words = [each.get_attribute("name") or "" for each in self.all("main [name^=why-]")]
         return {word.removeprefix("why-"): "looked at, and right" for word in words}
 
@@ -290,7 +291,7 @@ class Browser:
         self.fill("code", code)
         self.fill("names", names)
         self.fill("why", why)
-        self.press("Report it again" if off else "Quiet it")
+        self.press("Report it again" if off else "Quiet the rule")
 
     def window(self, first: str, last: str) -> None:
         self.open("ask/")
@@ -298,9 +299,12 @@ class Browser:
         self.fill("last", last)
         self.press("Reconcile")
 
-    def post(self, period: str) -> None:
+    def post(self, period: str, reasons: Mapping[str, str] | None = None) -> None:
         self.open(f"ask/{period}/difference")
-        self.press("Hand over, and record it")
+        for gate, why in (reasons or {}).items():
+            self.fill(f"why-{gate}", why)
+        self.press("Hand over and record")
+        assert f"{period} is posted as" in self.said(), self.text()
 
 
 Hand = Commands | Browser

@@ -258,7 +258,7 @@ def test_killed(site: Site) -> None:
     form = site.fields(f"{AMEND}?amount=12188+t&why=x") | WORDS
     Deed.objects.create(key=form["deed"], person=site.person, plant=site.plant, address="/")
     answer = site.client.post(f"/p/{site.plant.slug}/{AMEND}", form, follow=True)
-    assert "still at work" in sentence(answer) and site.head() == 3
+    assert "still being worked on" in sentence(answer) and site.head() == 3
     Deed.objects.filter(key=form["deed"]).update(begun=timezone.now() - timedelta(hours=1))
     assert site.post(AMEND, form).status_code == 302 and site.head() == 4
 
@@ -379,18 +379,18 @@ def test_tasks(site: Site) -> None:
 def test_languages_of_sentences(site: Site) -> None:
     """What has a code is said in the person's language; English is the library's own sentence."""
     from django.utils import translation
-    from plantbal.gates import Gate, Stop, said_of
-    from plantbal_office.sentences import stop_said
+    from plantbal.gates import Gate, Stop, said_of_stop
+    from plantbal_office.sentences import said
 
     stop = Stop(Gate.MISSING, "2024-04", ("FI-302",), (738996, 738997, 738998), {"is_tank": 0})
     with translation.override("en"):
-        assert stop_said(stop) == said_of(stop)
-    said = {}
+        assert said(said_of_stop(stop)) == said_of_stop(stop)
+    texts = {}
     for code in ("de", "es"):
         with translation.override(code):
-            said[code] = stop_said(stop)
-    assert said["de"] == "keine Ablesung von FI-302 am 20.04.2024 bis 22.04.2024", said
-    assert "falta la lectura" in said["es"], said
+            texts[code] = said(said_of_stop(stop))
+    assert texts["de"] == "keine Ablesung von FI-302 am 20.04.2024 bis 22.04.2024", texts
+    assert "falta la lectura" in texts["es"], texts
 
 
 def test_fifty_megabytes(site: Site) -> None:

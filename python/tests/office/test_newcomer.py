@@ -61,11 +61,11 @@ def test_newcomer(desk: Browser, tmp_path: Path) -> None:
     one.field("Workbook of the plant").send_keys(
         "\n".join(map(str, files_of(EXAMPLES / "own_workbook")))
     )
-    one.fills("Name of the workbook, if it is CSV files", "own_workbook")
+    one.fills("Name of the workbook, if it is a set of CSV files", "own_workbook")
     one.follows("Begin")
     one.sees("Tagesmengen")
-    one.follows("Begin the book so")
-    one.sees("Nothing is booked yet")
+    one.follows("Begin the book this way")
+    one.sees("The rest of the workbook isn't booked yet")
     one.follows("Book it")
     one.sees("2024-06")
     one.follows("Make the report")
@@ -76,7 +76,7 @@ def test_newcomer(desk: Browser, tmp_path: Path) -> None:
     one.follows("Berge")
     one.follows("FI-302_2024-06-18")
     one.follows("Amend")
-    one.fills("Amount with its unit", "11900 t")
+    one.fills("Amount with unit", "11900 t")
     one.fills("Reason", "read off wrong")
     one.follows("See what it would do")
     one.follows("Book it")
@@ -86,7 +86,7 @@ def test_newcomer(desk: Browser, tmp_path: Path) -> None:
     ).is_enabled(), "the back button books nothing twice"
     desk.driver.forward()
     one.follows("2024-06")
-    one.sees("Something was booked since this report.")
+    one.sees("Something has been booked since this report.")
     one.follows("Make the report")
     one.follows("Close")
     for label in desk.driver.find_elements(By.XPATH, "//fieldset//label"):

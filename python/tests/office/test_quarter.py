@@ -37,7 +37,11 @@ def quarter(hand: Hand, workbooks: dict[str, Path], closes: Closes) -> None:
     else:
         hand.amend_ticket(ticket, "900.5 t", "weighed again")
     hand.report("2024-01")
-    hand.post("2024-01")
+    # the ticket turned a loss round, which the close had no reason for
+    if isinstance(hand, Browser):
+        closes["posted"] = hand.gates_of("2024-01", "ask/{}/difference")
+        assert list(closes["posted"]) == ["negative-flow"]
+    hand.post("2024-01", closes["posted"])
 
 
 def test_quarter(desk: Browser, tmp_path: Path, workbooks: dict[str, Path]) -> None:

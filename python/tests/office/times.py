@@ -98,6 +98,9 @@ def spent(call: Callable[[], object]) -> float:
 def pages(room: Path) -> Iterator[str]:
     """Look at each page, and give what is above what is wanted."""
     site_of.begun(Path(tempfile.mkdtemp(prefix="plantbal-times-")))
+    from plantbal_office.warm import warm
+
+    warm()  # as a worker does when it starts
     for name, pages_, most in (
         ("refinery", PAGES, PAGE),
         ("grid", ("enter/grid/2024-01/readings",), PAGE),
@@ -121,11 +124,11 @@ def pages(room: Path) -> Iterator[str]:
                 f"{size / 1e6:5.2f} MB",
                 flush=True,
             )
-            if p95 > most or size > LONGEST:
-                yield f"{name} {page}: {p95:.3f} s, {size:,} bytes"
+            if p95 > most or first > max(most, LARGE) or size > LONGEST:
+                yield f"{name} {page}: {first:.3f} s, then {p95:.3f} s, {size:,} bytes"
         taken = resource.getrusage(resource.RUSAGE_SELF).ru_maxrss << 10
         print(f"{name:9} the process has taken {taken / (1 << 20):.0f} MB at most", flush=True)
-        if name == "refinery" and taken > WORKER:
+        if taken > WORKER:
             yield f"{taken:,} bytes of memory"
 
 

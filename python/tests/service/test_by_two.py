@@ -93,7 +93,7 @@ def test_nobody_does_both(office: services.Service) -> None:
     assert lisa.post("/p/two/correct/approve", words, at="/").status_code == 403
     words = hidden(page) | {"answer": "reject", "head": field(page, "head"), "why": "too early"}
     assert paul.post("/p/two/correct/approve", words, at="/").status_code == 302
-    assert "Nothing waits" in paul.get("/p/two/correct/waiting").text
+    assert "Nothing is waiting" in paul.get("/p/two/correct/waiting").text
 
 
 def hidden(page: str) -> dict[str, str]:
@@ -291,7 +291,7 @@ def test_a_closed_month_with_keys(office: services.Service, tmp_path: Path) -> N
     assert answer.status_code == 400 and "this book requires a signature" in answer.text
     text = lisa.post(at, words | {"answer": "text"}, at="/")
     assert text.headers["Content-Disposition"] == 'attachment; filename="submission.txt"'
-    assert "Nothing waits" in lisa.get("/p/late-keys/correct/waiting").text
+    assert "Nothing is waiting" in lisa.get("/p/late-keys/correct/waiting").text
     for key, status in (("paul", 400), ("lisa", 302)):
         sent = files(office, tmp_path, key, text.text)
         assert lisa.post(at, words, at="/", files=sent).status_code == status, key

@@ -63,7 +63,9 @@ def test_signing_in(office: services.Service) -> None:
     visitor = office.visitor()
     for name in ("eva", "nobody"):
         answer = visitor.sign_in(name, "wrong")
-        assert answer.status_code == 403 and "don&#x27;t belong together" in answer.text, name
+        assert (
+            answer.status_code == 403 and "The name or the password is wrong." in answer.text
+        ), name
     for _ in range(4):
         visitor.sign_in("eva", "wrong")
     answer = visitor.sign_in("eva", office.passwords["eva"])

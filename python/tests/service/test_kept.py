@@ -108,7 +108,7 @@ def verified(said: str) -> None:
     assert "good: the digests of its" in said and "wrong:" not in said, said
     assert "files are as the journal says" in said
     assert "signed by lisa with the key SHA256:" in said and "approved by paul" in said
-    assert "the program has written 1 reports again" in said
+    assert "reports calculated anew: 1" in said
 
 
 @pytest.fixture(name="gpg")

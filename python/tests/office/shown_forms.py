@@ -1,0 +1,117 @@
+"""The forms of sentences that the desk in the browser can show, read from where they are written."""
+
+from __future__ import annotations
+
+import ast
+import re
+from collections.abc import Iterator
+from pathlib import Path
+
+from gate.documentation.messages import OTHER, UNREAD, WORDS
+from plantbal.accounts.entries import AccountLine
+from plantbal.accounts.month import Basis
+from plantbal.accounts.stock import Opened, Why
+from plantbal.gates import Gate, about
+from plantbal.lint import lacking
+from plantbal.model import remedies, words
+from plantbal.page.drawing import KINDS
+from plantbal.page.verdict import STOPS
+from plantbal_office.causes import GridCause, GridRemedy
+
+HOME = Path(__file__).parents[2]
+# What is made of forms, and in which places of its call they are.
+MAKERS = {"Sentence": (0,), "counted": (1, 2)}
+# Modules of the package all of whose sentences a page of the desk can show.
+WHOLE = (
+    *(
+        "accounts/account",
+        "diagnosis/candidates",
+        "diagnosis/rounds",
+        "diagnosis/words",
+        "gates/words",
+    ),
+    *("lint/values", "model/words", "page/verdict"),
+    *("workbook/causes", "workbook/remedies", "volumes/causes"),
+    *("workbook/assays", "workbook/bookings", "workbook/cells", "workbook/cellforms"),
+    *("workbook/daily", "workbook/dips", "workbook/drying", "workbook/estimates"),
+    *("workbook/fates", "workbook/figures", "workbook/hours", "workbook/kinds"),
+    *("workbook/measuresheets", "workbook/measuring", "workbook/missing", "workbook/moisture"),
+    *("workbook/packed", "workbook/periods", "workbook/plant", "workbook/readings"),
+    *("workbook/settings", "workbook/shapeparts", "workbook/shapes", "workbook/tables"),
+    *("workbook/tickets", "workbook/wide"),
+)
+_TEMPLATE = re.compile(r'(?<![\w.])_\("((?:[^"\\]|\\.)*)"')
+_DJANGO = re.compile(r'{% translate (?:"([^"]*)"|\'([^\']*)\')')
+_FILLED = re.compile(r"\{\w+[^{}]*\}|%\(\w+\)[sd]")
+
+
+def fields(form: str) -> list[str]:
+    """Return what a form is filled with, in an order of their own."""
+    return sorted(_FILLED.findall(form))
+
+
+def of_calls(text: str) -> Iterator[str]:
+    """Give the forms that stand in a module where sentences are made of them."""
+    for node in ast.walk(ast.parse(text)):
+        if isinstance(node, ast.Call) and isinstance(node.func, ast.Name):
+            for at in MAKERS.get(node.func.id, ()):
+                for inner in ast.walk(node.args[at]) if at < len(node.args) else ():
+                    if isinstance(inner, ast.Constant) and isinstance(inner.value, str):
+                        yield inner.value
+
+
+def of_module(node: ast.AST) -> Iterator[str]:
+    """Give the texts of several words in a module, but for those that nobody reads."""
+    if isinstance(node, ast.Constant) and isinstance(node.value, str):
+        if WORDS.search(node.value) and not OTHER.match(node.value):
+            yield node.value
+    is_text = isinstance(node, ast.Expr) and isinstance(node.value, ast.Constant)
+    called = node.func if isinstance(node, ast.Call) else None
+    if is_text or (isinstance(called, ast.Attribute) and called.attr in UNREAD):
+        return
+    if isinstance(node, ast.JoinedStr):
+        return  # a text that isn't made of a form stays in English
+    for inner in ast.iter_child_nodes(node):
+        yield from of_module(inner)
+
+
+def of_templates(text: str) -> Iterator[str]:
+    """Give the texts of a template."""
+    for found in _TEMPLATE.findall(text):
+        yield found.replace('\\"', '"')
+
+
+def of_tables() -> Iterator[str]:
+    """Give the forms that are chosen by a reason, a gate, a class or another enum."""
+    for cause in (*GridCause, *GridRemedy):
+        yield str(cause.value)
+    for line in AccountLine:
+        yield from (line.value, line.value.capitalize())
+    yield from (each.value for table in (Basis, Opened, Why) for each in table)
+    yield from ("unaccounted loss", "unaccounted gain")
+    for name, look in KINDS.items():
+        yield from (name, look.about)
+    yield from map(about, Gate)
+    for table in (remedies._DO, remedies._NO_END, remedies._NEVER_LATE, remedies._OTHER_STREAM):
+        yield from table.values()
+    yield from (words._SAID | words._THINGS).values()
+    yield from (words.FORM_OF_TEXT, words.FORM_OF_NOTHING, remedies.NAME_FORM)
+    yield from (remedies.NAME_LETTERS, remedies.NAME_LONG, remedies.NAME_SUCH)
+    yield from (*lacking._MEANS.values(), *STOPS.values())
+
+
+def shown_forms() -> set[str]:
+    """Return all forms that a page of the desk can show."""
+    found = set(of_tables())
+    for path in (HOME / "plantbal").rglob("*.py"):
+        text = path.read_text(encoding="utf-8")
+        if "from plantbal.sentence import" in text:
+            found.update(of_calls(text))
+    for name in WHOLE:
+        found.update(of_module(ast.parse((HOME / f"plantbal/{name}.py").read_text("utf-8"))))
+    for path in (HOME / "plantbal/page/templates").glob("*.j2"):
+        found.update(of_templates(path.read_text(encoding="utf-8")))
+    for path in (HOME / "plantbal_office").rglob("*.html"):
+        for one, other in _DJANGO.findall(path.read_text(encoding="utf-8")):
+            found.add(one or other)
+    return {form for form in found if re.search(r"[A-Za-z]{2}", _FILLED.sub("", form))}

@@ -1,0 +1,123 @@
+"""What the desk says in German and Spanish: each form that it can show, and pages with them."""
+
+from __future__ import annotations
+
+import io
+import re
+from typing import Any
+
+import pytest
+from babel.messages.catalog import Catalog
+from babel.messages.mofile import read_mo
+from babel.messages.pofile import read_po
+from office.shown_forms import HOME, fields, shown_forms
+from office.site_of import Site
+
+LOCALE = HOME / "plantbal_office" / "locale"
+
+
+def catalogue(language: str, ending: str = "po") -> Catalog:
+    """The forms of a language, as they are written or as they are compiled."""
+    with open(LOCALE / language / "LC_MESSAGES" / f"django.{ending}", "rb") as file:
+        return read_po(file) if ending == "po" else read_mo(file)
+
+
+@pytest.mark.parametrize("language", ("de", "es"))
+def test_each_form_has_a_translation(language: str) -> None:
+    """No sentence that a page can show is without one, and each is filled with the same values."""
+    known = catalogue(language)
+    forms = shown_forms()
+    assert len(forms) > 1200
+    missing = sorted(
+        form for form in forms if known.get(form) is None or not known.get(form).string
+    )
+    assert not missing, f"{len(missing)} forms without a translation, the first: {missing[:5]}"
+    for form in forms:
+        said = known.get(form).string
+        said = said if isinstance(said, str) else said[0]
+        assert fields(said) == fields(form), f"{language}: {form!r} is filled as {said!r}"
+
+
+@pytest.mark.parametrize("language", ("de", "es"))
+def test_compiled(language: str) -> None:
+    """The compiled catalogue is that of the written one: pybabel compile -D django -d .. makes it."""
+    compiled = catalogue(language, "mo")
+    for written in catalogue(language):
+        if written.id:
+            found = compiled.get(written.id)
+            assert found is not None, f"{language}: {written.id!r} isn't compiled"
+            assert list(found.string) == list(written.string), written.id
+
+
+def spoken(site: Site, language: str) -> Site:
+    """The site in a language."""
+    site.person.language = language
+    site.person.save()
+    site.client.cookies["django_language"] = language
+    return site
+
+
+def text_of(answer: Any) -> str:
+    """What a page says, without its marks."""
+    assert answer.status_code < 500
+    main = re.sub(r"<(script|style)\b.*?</\1>", "", answer.content.decode(), flags=re.S)
+    return re.sub(r"\s+", " ", re.sub(r"<[^>]+>", " ", main)).replace("&#x27;", "'")
+
+
+PAGES = {
+    "de": {
+        "": ("Monate", "30.04.2024"),
+        "look/2024-04/": (
+            *("Sehen Sie TAILS an", "2 Freiheitsgraden, und angenommen wird bis 5,991"),
+            *("Bilanzen, die nicht aufgehen", "+12.131,390"),
+            *("Konto des Zeitraums", "472,644", "nicht erklärter Verlust", "redundant"),
+        ),
+        "correct/2024-04/close": ("vom globalen Test abgelehnt", "122,514"),
+    },
+    "es": {
+        "look/2024-04/": ("Mire TAILS", "Cuenta del período", "pérdida sin explicar"),
+        "correct/2024-04/close": ("rechazado por la prueba global",),
+    },
+}
+# English that a page in another language has no place for.
+ENGLISH = re.compile(r"\b(the|and|is|are|of|with|which|below|nothing|measured|booked)\b")
+
+
+@pytest.mark.parametrize("language", PAGES)
+def test_pages(site: Site, language: str) -> None:
+    """The statement and the pages around it are in the language, but for names and reasons."""
+    spoken(site, language)
+    for path, words in PAGES[language].items():
+        said = text_of(site.get(path)).replace(str(site.book), "")
+        for word in words:
+            assert word in said, f"{path} in {language} lacks {word!r}"
+        found = [said[max(0, m.start() - 40) : m.end() + 40] for m in ENGLISH.finditer(said)]
+        assert not found, f"{path} in {language} has English: {found[:6]}"
+
+
+def test_faults(site: Site) -> None:
+    """The faults of a workbook are said at their cells in German, what to do about them too."""
+    spoken(site, "de")
+    file = io.BytesIO(b"day,FI-302,FI-999\n2024-05-01,zwoelf,1\n2024-13-01,11,2\n")
+    file.name = "readings.csv"
+    data = {**site.fields("enter/"), "locale": "de", "workbook": [file]}
+    answer = site.client.post(f"/p/{site.plant.slug}/enter/", data, follow=True)
+    said = text_of(answer)
+    for word in ("3 Fehler, und nichts", "'zwoelf' ist keine Zahl", "'2024-13-01' ist kein Tag"):
+        assert word in said, said[:1500]
+    assert not ENGLISH.search(said.split("Nichts ist gebucht")[1]), said
+
+
+def test_refusal(site: Site) -> None:
+    """What the grid's judge says of a cell is German, with figures as Germans write them."""
+    spoken(site, "de")
+    from plantbal.sentence import Day, Figure, Sentence
+    from plantbal_office.sentences import said
+
+    from django.utils.translation import override
+
+    form = "{name} is estimated on {days}, {count:,} days: {amount} ± {error}"
+    words: dict[str, object] = {"name": "NAPHTHA", "days": Day("2024-05-03"), "count": 1200}
+    with override("de"):
+        text = said(Sentence(form, amount=Figure("12,188.5 t"), error=Figure("0.2 t"), **words))
+    assert text == "NAPHTHA ist am 03.05.2024 geschätzt, 1.200 Tage: 12.188,5 t ± 0,2 t"
