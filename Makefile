@@ -179,6 +179,13 @@ core:
 kills:
 	PLANTBAL_KILLS=120 /usr/bin/python3 -m pytest -q -s python/tests/test_database.py -k killed
 
+COUNT = 1000
+FIRST = 0
+
+# the model of a session in Python beside the program, on random sessions of all kinds
+compare-sessions: $(PROGRAM)
+	PYTHONPATH=python /usr/bin/python3 python/tests/compare_sessions.py $(PROGRAM) $(COUNT) $(FIRST)
+
 fuzz:
 	.ci/fuzz --seconds $(SECONDS) --seed $(SEED) --keep $(KEEP)
 

@@ -261,7 +261,7 @@ All other rows come between blocks.
 .PP
 A
 .B stream
-row of a report without least bounds lacks the two columns
+row of a report without least bounds doesn't have the two columns
 .B least_lo
 and
 .BR least_hi ,

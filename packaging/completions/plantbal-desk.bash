@@ -82,6 +82,7 @@ _plantbal_desk() {
         book:--who) :; return ;;
         book:--key) _plantbal_files -f; return ;;
         book:--why) :; return ;;
+        book:--anyway) :; return ;;
         book:--year) :; return ;;
         book:--density) :; return ;;
         book:--error) :; return ;;

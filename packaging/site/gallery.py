@@ -65,7 +65,7 @@ def desk_made(words: list[str], wanted: Path) -> None:
     """Call a subcommand of the desk, which makes a file."""
     said = io.StringIO()
     with contextlib.redirect_stdout(said), contextlib.redirect_stderr(said):
-        desk.call(_PARSER, [*words, "--out", str(wanted)])
+        desk.run_words(_PARSER, [*words, "--out", str(wanted)])
     if not wanted.exists():
         raise SystemExit(
             f"site: plantbal-desk {' '.join(words)} made no picture: {said.getvalue()}"

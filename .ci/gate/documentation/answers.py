@@ -17,7 +17,7 @@ answer is looked for by these signs:
 from __future__ import annotations
 
 import re
-from collections.abc import Iterator
+from collections.abc import Iterator, Mapping
 from dataclasses import dataclass, field
 from functools import cache, cached_property
 
@@ -323,14 +323,14 @@ def together(shown: list[str]) -> str:
     return ", ".join(f"`{front}{', '.join(names)}{ends}`" for (front, ends), names in found.items())
 
 
-def table(sources: Sources) -> list[str]:
-    """Return the table of calls, their answers, and where each is reached first."""
-    lines = ["| call | its answers, and where each is reached |", "|---|---|"]
+def table(sources: Sources, sizes: Mapping[str, str]) -> list[str]:
+    """Return the table of calls, their answers, where each is reached first, and up to which size."""
+    lines = ["| call | its answers, and where each is reached | up to |", "|---|---|---|"]
     for call in reached(sources):
         places: dict[str, list[str]] = {}
         for answer, where in call.answers.items():
             place = f"`{where[0]}`" if where else "nowhere"
             places.setdefault(place, []).append(answer.shown)
         said = "; ".join(f"{together(shown)}: {place}" for place, shown in places.items())
-        lines.append(f"| `{call.shown}` | {said} |")
+        lines.append(f"| `{call.shown}` | {said} | {sizes.get(call.shown, '')} |")
     return lines

@@ -1,4 +1,4 @@
-"""The named calls of the libraries, on which other programs rely, and whether each still stands."""
+"""The named calls of the libraries, on which other programs rely, and whether each is still as it was."""
 
 from __future__ import annotations
 

@@ -18,6 +18,7 @@ from . import (
     rows,
     second,
     sheets,
+    sizes,
     statement,
 )
 from .sources import Sources
@@ -27,7 +28,9 @@ def made(sources: Sources) -> dict[str, str]:
     """Return the text of each file that is made, or has a part that is."""
     path = numbers.ASSURANCE
     assurance = guide.between(sources.text(path), numbers.NUMBERS, numbers.table(sources), path)
-    assurance = guide.between(assurance, answers.ANSWERS, answers.table(sources), path)
+    assurance = guide.between(
+        assurance, answers.ANSWERS, answers.table(sources, sizes.column(sources)), path
+    )
     assurance = guide.between(assurance, laws.LAWS, laws.table(sources), path)
     times = numbers.times(sources)
     times[described.ARCHITECTURE] = described.document(sources, times[described.ARCHITECTURE])
@@ -90,6 +93,7 @@ CHECKS = (
     calls.complaints,
     laws.complaints,
     forms.complaints,
+    sizes.complaints,
     citations.missing,
     citations.edits,
     citations.rows_of_examples,

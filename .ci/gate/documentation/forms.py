@@ -12,6 +12,7 @@ from functools import cache
 
 from .answers import unreached
 from .names import classes_twice, functions_twice
+from .plain import ruled_out
 from .rust import Function, of_libraries
 from .sources import Sources, Unknown
 from .statement import page_of, repeated, short
@@ -180,6 +181,7 @@ FORMS: dict[str, Callable[[Sources], list[str]]] = {
     "out_of_memory_after_a_caught_failure": out_of_memory_after_failure,
     "names_of_two_python_classes": classes_twice,
     "names_of_two_python_functions": functions_twice,
+    "words_that_style_rules_out": ruled_out,
 }
 
 

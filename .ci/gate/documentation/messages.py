@@ -7,6 +7,7 @@ import bisect
 import re
 from collections.abc import Iterator
 from dataclasses import dataclass
+from functools import cache
 
 from .guide import between
 from .sources import Sources
@@ -80,6 +81,7 @@ class Reader:
             self._read(inner)
 
 
+@cache
 def forms(sources: Sources) -> list[Form]:
     """Return the forms of sentences, each once for a module."""
     found: dict[Form, None] = {}

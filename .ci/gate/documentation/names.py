@@ -1,4 +1,4 @@
-"""Names of Python that stand in two modules of python/plantbal and python/plantbal_office: one name is one thing."""
+"""Names of Python that two modules of python/plantbal and python/plantbal_office define: one name is one thing."""
 
 from __future__ import annotations
 

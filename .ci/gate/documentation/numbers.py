@@ -103,7 +103,16 @@ def front(t: dict[str, int]) -> list[str]:
         f" {t['gate_minutes_on_two']} on two (estimated) |",
         "| all this, the planted edits, examples, scripts and documents | `.ci/run` |"
         f" {t['checks_minutes']} minutes more |",
+        *planted(t),
     ]
+
+
+def planted(t: dict[str, int]) -> list[str]:
+    """Return the row of the table for all planted edits, once their time was measured."""
+    if "planted_minutes_on_four" not in t:
+        return []
+    minutes = t["planted_minutes_on_four"]
+    return [f"| all planted edits | `.ci/planted anew` | {minutes} minutes on four processors |"]
 
 
 def paragraphs(t: dict[str, int]) -> list[str]:

@@ -198,7 +198,7 @@ class Page:
             whole = part.imports.modules.get(front, "")
             module, name = part.imports.names.get(front, ("", ""))
             if dot and ".pb_" in whole:
-                found[f"{front}."] = f"`{front}.` stands before {place_of(whole)}"
+                found[f"{front}."] = f"`{front}.` comes before {place_of(whole)}"
             elif ".pb_" in module and name != front:
                 found[front] = f"`{front}` is {named_in(module, name)}"
             elif ".pb_" in module and front in self.repeated:
@@ -374,7 +374,7 @@ def core_page(sources: Sources, page: Page) -> list[str]:
     lines = ["# What must be believed", "", *made_by(), ""]
     lines += paragraph(
         f"The program is proved to meet the contract of `pb_cli::{TOP_CALL}`, and a few laws are proved as well. To accept these claims, a"
-        " reader must believe that their words mean what they should. These pages have all of these words:"
+        " reader must believe that these definitions say what they should. These pages have all of these words:"
         f" {count} definitions in {len(page.files)} files, and the {len(page.reach.types)} types and constants of the code to which they"
         " refer. Nothing else in the repository has to be read to know what is claimed: bodies, invariants, lemmas and the other contracts"
         " only serve to prove it."
@@ -382,8 +382,9 @@ def core_page(sources: Sources, page: Page) -> list[str]:
     lines += [
         "",
         *paragraph(
-            "The chapters stand in the order in which a reader can stop. Each has the definitions on which its subject rests, less what an"
+            "The chapters are in the order in which a reader can stop. Each has the definitions on which its subject rests, except those that an"
             f" earlier chapter has. Chapters 1 and {len(core)} are below: they say what a certified report means. An afternoon is enough for them."
+            " Some files name the definitions of `coq/` that say the same. They belong to a second proof, and these pages don't rest on them."
         ),
         "",
         *overview(page),
@@ -398,8 +399,8 @@ def core_page(sources: Sources, page: Page) -> list[str]:
         "## You may stop here",
         "",
         *paragraph(
-            "if you only ask what a `yes` means, or what a printed report promises. What follows says how the program chooses its numbers, how"
-            " the graph of a period comes about, which rows are refused, and which bytes are written."
+            "You may stop here if you only ask what a `yes` means, or what a printed report promises. The rest says how the program chooses its"
+            " numbers, how the graph of a period is made, which rows are refused, and which bytes are written."
         ),
         "",
         *sources.text(IN_WORDS).rstrip().split("\n"),

@@ -6,11 +6,13 @@
 No contract can refuse a body that answers out of memory where there is memory, be it only above some size. So each list that a session
 can make long is tried at 1, at 2, between, and at its greatest length. Each session is such that its answer follows in another way: a
 line whose meters agree books what was measured, a report after edits is that of the final values, a boundary is `env` by another name.
-An allocator that is put before the C library's counts what it refuses: a run must end as it should, and must not be refused anything.
+Each report is checked too. An allocator that is put before the C library's counts what it refuses: a run must end as it should, and must
+not be refused anything.
 """
 
 from __future__ import annotations
 
+import json
 import subprocess
 import sys
 import tempfile
@@ -76,12 +78,20 @@ def day(number: int) -> str:
     return (FIRST + timedelta(days=number)).isoformat()
 
 
-def line(streams: int) -> list[str]:
-    """Return a line of units, in which each stream is metered."""
-    units = [f"unit,u{at}" for at in range(1, streams)]
-    ends = ["env", *(f"u{at}" for at in range(1, streams)), "env"]
-    pairs = zip(ends, ends[1:])
-    return units + [f"stream,s{at},{a},{b},metered,1" for at, (a, b) in enumerate(pairs)]
+def line(streams: int, last: str = "metered,1") -> list[str]:
+    """Return a line of at most 1,000 units, in which each stream is metered; the last may be of another kind.
+
+    As many streams as are needed lead from a unit to the next one, the same number from each.
+    """
+    beside = -(-streams // 1001)
+    steps = streams // beside
+    units = [f"unit,u{at}" for at in range(1, steps)]
+    ends = ["env", *(f"u{at}" for at in range(1, steps)), "env"]
+    kinds = ["metered,1"] * (streams - 1) + [last]
+    return units + [
+        f"stream,s{at},{ends[at // beside]},{ends[at // beside + 1]},{kind}"
+        for at, kind in enumerate(kinds)
+    ]
 
 
 def readings(streams: int, number: int = 0, amount: int = FLOW) -> list[str]:
@@ -106,7 +116,7 @@ def books(count: int, amount: int) -> Callable[[list[str]], str]:
     return holds
 
 
-def counts(**wanted: int) -> Callable[[list[str]], str]:
+def counts(wanted: dict[str, int]) -> Callable[[list[str]], str]:
     """Return what says whether there are so many rows of each kind."""
 
     def holds(output: list[str]) -> str:
@@ -116,10 +126,36 @@ def counts(**wanted: int) -> Callable[[list[str]], str]:
     return holds
 
 
+def streams_of_version_1(size: int) -> Try:
+    """The same in a session of version 1."""
+    return Try(streams(size).rows[1:], books(size, FLOW))
+
+
 def streams(size: int) -> Try:
     """A line of that many streams that agree."""
     rows = ["version,2", *line(size), f"period,p,{day(0)},{day(0)}", *readings(size), "report,p"]
     return Try(rows, books(size, FLOW))
+
+
+def json_lines(size: int) -> Try:
+    """The same as objects, a row a line."""
+
+    def holds(output: list[str]) -> str:
+        rows = [json.loads(row) for row in output]
+        found = sum(row["row"] == "stream" and row["flow"] == str(FLOW) for row in rows)
+        return "" if found == size else f"{found} flows and not {size}"
+
+    return Try(streams(size).rows, holds, ("run", "--format", "json"))
+
+
+def design(size: int) -> Try:
+    """The classes of that many metered streams in a line, each of which others test."""
+    return Try(["version,2", *line(size), "design"], counts({"class": size}))
+
+
+def made(size: int) -> Try:
+    """A made session of that many streams."""
+    return Try([], counts({"stream": size, "report": 1}), ("make", "--streams", str(size)))
 
 
 def edits(size: int) -> Try:
@@ -128,7 +164,7 @@ def edits(size: int) -> Try:
     rows = [*line(2), f"period,p,{day(0)},{day(0)}", *readings(2, amount=FLOW), *changes]
 
     def holds(output: list[str]) -> str:
-        wrong = books(2, FLOW)(output) or counts(edit=size)(output)
+        wrong = books(2, FLOW)(output) or counts({"edit": size})(output)
         told = [row[4] for row in of_kind(output, "edit")]
         return wrong or (
             "" if told == [f"no {at}" for at in range(1, size + 1)] else "other reasons"
@@ -182,7 +218,7 @@ def assays(size: int) -> Try:
     rows += [f"assay,c{at // 200},s{at % 20},p{at // 20 % 10},500000,0" for at in range(size)]
     last = size - 1
     asked = f"component,c{last // 200},p{last // 20 % 10}"
-    return Try([*rows, asked], counts(component=1))
+    return Try([*rows, asked], books(20, FLOW // 2))
 
 
 def costs(size: int) -> Try:
@@ -190,14 +226,20 @@ def costs(size: int) -> Try:
     rows = ["version,2", "unit,u", *(f"stream,s{at},env,u,plain,0" for at in range(size + 1))]
     named = "".join(f",s{at},{1000 - at if at else 1_000_000}" for at in range(min(size, 1000)))
     many = "".join(f",s{at},5" for at in range(1000, size))
-    return Try([*rows, f"advise{named}{many}"], counts(meter=size))
+
+    def holds(output: list[str]) -> str:
+        metered = {row[1] for row in of_kind(output, "meter")}
+        others = {f"s{at}" for at in range(1, size + 1)}
+        return ", ".join(sorted(metered ^ others)[:3])
+
+    return Try([*rows, f"advise{named}{many}"], holds)
 
 
 def periods(size: int) -> Try:
-    """That many periods of a day, each reported."""
+    """That many periods of a day, each closed and reported."""
     rows = [*line(2), *(f"period,p{at},{day(at)},{day(at)}" for at in range(size))]
     rows += [row for at in range(size) for row in readings(2, at)]
-    rows += [f"report,p{at}" for at in range(size)]
+    rows += [f"{asked},p{at}" for at in range(size) for asked in ("close", "report")]
     return Try(rows, books(2 * size, FLOW))
 
 
@@ -226,14 +268,15 @@ def boundaries(size: int) -> Try:
     def holds(output: list[str]) -> str:
         found = of_kind(output, "stream")
         wrong = [row for row in found if row[4] != row[7]]
-        return f"{','.join(wrong[0])}" if wrong else counts(stream=size + 1)(output)
+        return f"{','.join(wrong[0])}" if wrong else counts({"stream": size + 1})(output)
 
     return Try(rows, holds)
 
 
 def refused(size: int) -> Try:
     """That many rows that are refused."""
-    return Try(["x"] * size, counts(refused=size), status=1)
+    rows = [f"refused,{at},1,kind" for at in range(1, size + 1)]
+    return Try(["x"] * size, lambda output: "" if output == rows else "other rows", status=1)
 
 
 def rounds(size: int) -> Try:
@@ -243,7 +286,42 @@ def rounds(size: int) -> Try:
     rows += [f"reading,r{at},s{at},{day(0)},{FLOW * (1 + at % 2 * at)},100" for at in range(count)]
     rows += [f"critical,global,{freedom},0" for freedom in range(1, count + 1)]
     rows += ["critical,measure,0", "report,p"]
-    return Try(rows, counts(taken=size), ("run", "--eliminate", str(size)))
+    return Try(rows, counts({"taken": size}), ("run", "--eliminate", str(size)))
+
+
+def transfers(stream: str, number: int, first: int = 0) -> list[str]:
+    """Return transfers of a day of the greatest amount: 100 are all that a value may be."""
+    amounts = f"{day(first)},{day(first)},10000000000000,1"
+    return [f"transfer,t{stream}-{at},{stream},{amounts}" for at in range(number)]
+
+
+def is_only(row: str) -> Callable[[list[str]], str]:
+    """Return what says whether a row is all of the output."""
+    return lambda output: "" if output == [row] else f"{output[:1]} and not {row}"
+
+
+def over(size: int) -> Try:
+    """A report of that many streams, the last of which has more than a value may be."""
+    name = f"s{size - 1}"
+    rows = [*line(size, "batch,1"), f"period,p,{day(0)},{day(0)}", *readings(size)[:-1]]
+    return Try([*rows, *transfers(name, 101), "report,p"], is_only(f"over,p,{name}"))
+
+
+def component_over(size: int) -> Try:
+    """A component of so many streams, the last of which is reconciled to more than a value may be."""
+    rows = [*line(size), "unit,v", "stream,a,env,v,batch,1", "stream,b,env,v,batch,1"]
+    rows += ["stream,out,v,env,plain,0", f"period,p,{day(0)},{day(0)}", *readings(size)]
+    rows += [*transfers("a", 100), *transfers("b", 1), "assay,cu,out,p,500000,0"]
+    return Try([*rows, "component,cu,p"], is_only("over,p,out"))
+
+
+def window_over(size: int) -> Try:
+    """A window of that many periods, in whose last a stream has more than a value may be."""
+    rows = ["unit,u", "stream,in,env,u,metered,1", "stream,out,u,env,batch,1"]
+    rows += [f"period,p{at},{day(at)},{day(at)}" for at in range(size)]
+    rows += [f"reading,r{at},in,{day(at)},{FLOW},100" for at in range(size)]
+    rows += [*transfers("out", 101, size - 1), f"window,p0,p{size - 1}"]
+    return Try(rows, is_only(f"over,p0,s{size}.1"))
 
 
 def window_too_great(_: int) -> Try:
@@ -251,11 +329,7 @@ def window_too_great(_: int) -> Try:
     rows = [f"unit,u{at}" for at in range(40)]
     rows += [f"stream,s{at},env,u{at},metered,1" for at in range(40)]
     rows += [f"period,p{at},{day(at)},{day(at)}" for at in range(31)]
-    return Try(
-        [*rows, "window,p0,p30"],
-        lambda output: "" if output == ["refused,112,13,full"] else str(output),
-        status=1,
-    )
+    return Try([*rows, "window,p0,p30"], is_only("refused,112,13,full"), status=1)
 
 
 def blocks(size: int) -> Try:
@@ -266,15 +340,19 @@ def blocks(size: int) -> Try:
         "solved,0,converged,0,0,0,0,0",
         "end,p,0",
     ]
-    return Try(block * size, counts(yes=size), ("check",))
+    return Try(block * size, counts({"yes": size}), ("check",))
 
 
 # Each kind of session, with the sizes at which it is tried: the last is the greatest that is accepted.
 KINDS: dict[str, tuple[Callable[[int], Try], list[int]]] = {
-    "streams": (streams, [2, 3, 51, 300, 1001]),
+    "streams": (streams, [2, 3, 51, 300, 1001, 4000]),
+    "streams_of_version_1": (streams_of_version_1, [2, 2000]),
+    "json_lines": (json_lines, [2, 51, 4000]),
+    "design": (design, [2, 51, 4000]),
+    "made": (made, [3, 300, 2000]),
     "edits": (edits, [1, 2, 7, 101, 1000, 20_000]),
     "window": (window, [1, 2, 5, 12, 13, 30, 31]),
-    "component": (component, [2, 9, 51, 300, 1001]),
+    "component": (component, [2, 9, 51, 300, 1001, 2000]),
     "component_after_elimination": (component_after_elimination, [4, 9, 60]),
     "assays": (assays, [1, 2, 399, 20_000]),
     "costs": (costs, [1, 2, 101, 1000, 1001, 2000, 3999]),
@@ -283,6 +361,9 @@ KINDS: dict[str, tuple[Callable[[int], Try], list[int]]] = {
     "boundaries": (boundaries, [1, 2, 50, 100]),
     "refused": (refused, [1, 2, 1000, 100_000]),
     "rounds": (rounds, [1, 2, 19, 20]),
+    "over": (over, [2, 51, 300, 2000]),
+    "component_over": (component_over, [2, 51, 300, 999]),
+    "window_over": (window_over, [1, 2, 12, 31]),
     "window_too_great": (window_too_great, [1]),
     "blocks": (blocks, [1, 2, 1000, 100_000]),
 }
@@ -304,17 +385,29 @@ def tries(kinds: list[str]) -> Iterator[tuple[str, int, Try]]:
             yield kind, size, make(size)
 
 
-def wrong(program: str, one: Try, preload: Path, counted: Path) -> str:
-    """Return what is wrong with a run, or nothing."""
+def ran_wrong(program: str, one: Try, preload: Path, counted: Path) -> tuple[str, list[str]]:
+    """Return what is wrong with a run, or nothing, and its output."""
     environment = {"LD_PRELOAD": str(preload), "AMPLE": str(counted)}
     given = "".join(f"{row}\n" for row in one.rows).encode()
     ran = run(program, one.words, given, env=environment)
     asked, denied = map(int, counted.read_text(encoding="ascii").split())
     if denied or not asked:
-        return f"{denied} of {asked} allocations were refused"
+        return f"{denied} of {asked} allocations were refused", []
     if ran.status != one.status:
-        return f"status {ran.status} and not {one.status}: {ran.lines[:1]} {ran.error.decode()}"
-    return one.holds(ran.lines)
+        said = f"{ran.lines[:1]} {ran.error.decode()}"
+        return f"status {ran.status} and not {one.status}: {said}", []
+    return one.holds(ran.lines), ran.lines
+
+
+def wrong(program: str, one: Try, preload: Path, counted: Path) -> str:
+    """Return what is wrong with a run, or with the check of its reports, or nothing."""
+    said, output = ran_wrong(program, one, preload, counted)
+    reports = len(of_kind(output, "report"))
+    if said or not reports or one.words[0] != "run":
+        return said
+    check = Try(output, counts({"yes": reports, "no": 0, "unreadable": 0}), ("check",))
+    said = ran_wrong(program, check, preload, counted)[0]
+    return f"check: {said}" if said else ""
 
 
 def main(words: list[str]) -> int:

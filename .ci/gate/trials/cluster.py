@@ -49,7 +49,7 @@ def main(words: list[str]) -> int:
         across = next(command for command in desk.COMMANDS if command.word == "across")
         folders = [str(room / "head" / "out"), *map(str, sorted(room.glob("head/sessions/book*")))]
         given = ["--out", str(room / "group.sqlite"), *folders]
-        if desk.call(desk.parser_of(across, "plantbal-desk across"), given):
+        if desk.run_words(desk.parser_of(across, "plantbal-desk across"), given):
             wrong.append("not all of it came into one database")
         print(f"cluster: across took {time.monotonic() - begun:.0f} s")
     for line in wrong:
