@@ -158,6 +158,17 @@ def made(size: int) -> Try:
     return Try([], counts({"stream": size, "report": 1}), ("make", "--streams", str(size)))
 
 
+def summary(size: int) -> Try:
+    """A made session of that many streams, run at once: each stream is of one of four classes."""
+
+    def holds(output: list[str]) -> str:
+        rows = [list(map(int, row[1:8])) for row in of_kind(output, "summary")]
+        said = [(streams, sum(classes)) for _, streams, _, *classes in rows]
+        return "" if said == [(size, size)] else f"{output[:1]} and not {size} streams"
+
+    return Try([], holds, ("make", "--streams", str(size), "--summary"))
+
+
 def edits(size: int) -> Try:
     """That many amendments of one reading, the last of which makes both meters agree."""
     changes = [f"amend,r0-0,{FLOW + (size - at)},100,no {at}" for at in range(1, size + 1)]
@@ -350,6 +361,7 @@ KINDS: dict[str, tuple[Callable[[int], Try], list[int]]] = {
     "json_lines": (json_lines, [2, 51, 4000]),
     "design": (design, [2, 51, 4000]),
     "made": (made, [3, 300, 2000]),
+    "summary": (summary, [3, 300, 2000]),
     "edits": (edits, [1, 2, 7, 101, 1000, 20_000]),
     "window": (window, [1, 2, 5, 12, 13, 30, 31]),
     "component": (component, [2, 9, 51, 300, 1001, 2000]),
