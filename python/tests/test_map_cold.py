@@ -12,7 +12,7 @@ from libre import DAYS, EVE, Rows, office, written
 
 from plantbal import convert
 from plantbal.workbook.conversion import Conversion
-from plantbal.workbook.mapping.applying import sheet_mapping
+from plantbal.workbook.mapping.finding import sheet_mapping
 from plantbal.workbook.mapping.command import proposal_text
 from plantbal.workbook.mapping.form import parse_mapping
 from plantbal.workbook.mapping.months import month_of_sheet, pattern_of, short_year_of

@@ -105,6 +105,11 @@ class SheetCause(Causes):
     HOURS_LACK = (
         "{name} has no figure for {lacks} of the {hours} hours of {day}: those from {times}"
     )
+    HEAD_NOT_NEXT_HOUR = "this head isn't the next hour of one day"
+    HOUR_TWICE = (
+        "{at} appears twice in {zone}, since clocks are put back, and there is one column for it"
+    )
+    NO_HOUR_OF_DAY = "{day} has {hours} hours, and this is a figure of one more"
     STAMPS_OUT_OF_ORDER = "the stamps don't follow each other"
     COUNTER_GAP = "the counter {name} has no figure at {at}, so what went on {day} isn't known"
     COUNTER_ABOVE = "the counter {name} begins again at {modulus:f}, and this is {text}"

@@ -125,7 +125,7 @@ def wide_by_day(
     hourly = timed and max(found.by_hours, default=1) > 1
     for cells, stamp in zip(lines, stamps):
         if stamp is None:
-            found.lines.append(_without_rates(cells, columns) if hourly else cells)
+            found.lines.append(without_rates(cells, columns) if hourly else cells)
     found.lines += [rows[day] for day in sorted(rows)]
     _say(found, heads, clock, [heads[c].text for c in counters], hourly)
     return found
@@ -257,7 +257,7 @@ def long_by_day(
         for each in days.found:
             row = _as_day(sheet.row(own[each.stamp.line]), column, each.day)
             row[at["value"]] = each.cell
-            found.lines.append(_without_rates(row, [unit]) if each.hours > 1 else row)
+            found.lines.append(without_rates(row, [unit]) if each.hours > 1 else row)
     hourly = timed and max(found.by_hours, default=1) > 1
     _say(found, heads, clock, counters, hourly)
     return found
@@ -354,7 +354,7 @@ def _as_day(cells: list[Cell], column: int, day: datetime.date) -> list[Cell]:
     return cells
 
 
-def _without_rates(cells: list[Cell], columns: list[int]) -> list[Cell]:
+def without_rates(cells: list[Cell], columns: list[int]) -> list[Cell]:
     """Return a row whose units an hour are those of an hour's amount."""
     found = list(cells)
     for column in columns:

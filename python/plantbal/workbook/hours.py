@@ -50,6 +50,19 @@ class SeriesFigure:
 
 
 @dataclass(frozen=True, slots=True)
+class AgainFigure(SeriesFigure):
+    """The figure of an hour that comes twice, for its second time, if one cell has both.
+
+    Attributes
+    ----------
+    weight : int
+        How often it counts once more: 0 if it is an amount, and 1 if it is one in an hour.
+    """
+
+    weight: int
+
+
+@dataclass(frozen=True, slots=True)
 class DayFigure:
     """What a series has on a day, at the cells of the day's first figure."""
 
@@ -155,6 +168,11 @@ class Clock:
     def local(self, instant: datetime.datetime) -> datetime.datetime:
         """Return the time that the plant's clocks show."""
         return _local_of(self.settings.zone, instant)
+
+    def times(self, at: datetime.datetime) -> int:
+        """Return how often the plant's clocks show a time: 0, 1 or 2 times."""
+        first = self._instant(at)
+        return 0 if self.local(first) != at else 1 + (self._instant(at, fold=1) != first)
 
     def day(self, instant: datetime.datetime) -> datetime.date:
         """Return the day that an instant is in."""
@@ -379,11 +397,14 @@ def _sum_day(
         )
         raise reader.fault(first.cell, what, remedy)
     days.filled += len(lacks)
+    own = [each for each in there.values() if not isinstance(each, AgainFigure)]
+    again = [each for each in there.values() if isinstance(each, AgainFigure)]
     with localcontext(EXACT):
-        total = sum((reader.number(each.cell, name) for each in there.values()), Decimal(0))
-    own = cells_text([each.cell for each in there.values()])
+        total = sum((reader.number(each.cell, name) for each in own), Decimal(0))
+        total += sum((each.weight * reader.number(each.cell, name) for each in again), Decimal(0))
     zeros = tuple(f"{clock.local(at):%H:%M}" for at in lacks)
-    of = DayCells(SummedBy.HOURS, own, len(there), len(wanted), zeros)
+    cells = cells_text([each.cell for each in own])
+    of = DayCells(SummedBy.HOURS, cells, len(own), len(wanted), zeros)
     cell = SummedCell(first.cell.sheet, first.cell.line, first.cell.column, total, of)
     days.found.append(DayFigure(day, first.stamp, cell, len(wanted)))
 

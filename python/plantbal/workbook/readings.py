@@ -9,13 +9,15 @@ from itertools import islice
 from plantbal.causes import CausedFault
 from plantbal.faults import Fault
 from plantbal.sentence import Sentence, phrase
+from plantbal.workbook.acrosshours import AcrossDays, AcrossRow
 from plantbal.workbook.bookings import Bookings
 from plantbal.workbook.causes import SheetCause
 from plantbal.workbook.cells import Error, Reader, day_order
 from plantbal.workbook.daily import Daily, long_by_day, wide_by_day
 from plantbal.workbook.fates import Fate, is_unit
+from plantbal.workbook.hourheads import HoursAcross
 from plantbal.workbook.plant import PlantReader, StreamRow
-from plantbal.workbook.shapeparts import HEADS_WITHIN
+from plantbal.workbook.shapeparts import HEADS_WITHIN, cell_at, has_figure
 from plantbal.workbook.sheets import Cell, Sheet
 from plantbal.workbook.summed import SummedCell, SummedFact, summed_fact
 from plantbal.workbook.tables import TOTALS, Tables
@@ -27,6 +29,8 @@ _LONG = {
     "value": ("value", "amount", "reading", "quantity"),
     "unit": ("unit", "units", "uom", "einheit"),
 }
+# The columns of a sheet with the hours of a day across, beside these.
+_OF_HOURS = ("day", "tag", "unit")
 # How a day that was typed wrong begins, perhaps with its weekday; other texts are remarks.
 _LIKE_DAY = re.compile(r"(?:[^\W\d_]+[.,]?\s*)?[0-9]+\s?[./-]\s?[0-9]")
 
@@ -93,6 +97,9 @@ class Readings:
         wide = False
         for sheet in self.tables.sheets["readings"]:
             with self.tables.kept():
+                if sheet.across is not None:
+                    self._read_hours(sheet, sheet.across)
+                    continue
                 at, form = self._form(list(islice(sheet.rows(), HEADS_WITHIN)))
                 heads = sheet.row(at)
                 if form:
@@ -341,6 +348,36 @@ class Readings:
                 if column < len(cells) and not self.reader.is_missing(cells[column]):
                     unit = unit_of(units[0]) if units else ""
                     self.reading(stream, cells[column], day, unit)
+
+    def _read_hours(self, sheet: Sheet, across: HoursAcross) -> None:
+        """Read a sheet with the hours of a day across, as a mapping says."""
+        place = next(n for n, (line, _) in enumerate(sheet.lines) if line == across.line)
+        heads, lines = sheet.row(place), list(islice(sheet.rows(), place + 1, None))
+        self.tables.fates.put(Fate.HEADS, heads)
+        at = {cell.text: cell.column - 1 for cell in reversed(heads) if cell.text in _OF_HOURS}
+        self.tables.say_columns(heads, lines, {*at.values(), *across.columns})
+        days = AcrossDays(self.reader, self.plant.settings, sheet, across, at.get("unit", -1))
+        rows: dict[str, list[AcrossRow]] = {}
+        for cells in lines:
+            first = cell_at(cells, at["day"])
+            figures = any(has_figure(cells, column, self.reader) for column in across.columns)
+            if self.tables.is_total(cells) or (first.value is None and not figures):
+                continue
+            self.tables.fates.put(Fate.READ, cells)
+            day = self.tables.day(first)
+            stream = self.plant.named(cell_at(cells, at["tag"]), "tag")
+            if stream is not None and day is not None:
+                rows.setdefault(stream.name, []).append(AcrossRow(day, cells))
+        for name, own in rows.items():
+            stream = self.plant.streams[name]
+            self.listed.add(name)
+            found = days.days(stream.said, name, own)
+            with self.tables.kept():
+                unit = self.reader.unit(days.unit_of(own), AMOUNTS, "")
+                for each in found.found:
+                    self.reading(stream, each.cell, each.day, unit)
+        self.tables.faults += days.found.faults
+        self.tables.notes += days.say()
 
     def _say_across(self, heads: list[Cell], lines: list[list[Cell]], first: int) -> None:
         """Say which columns of a sheet with days across aren't read; the days begin at one."""

@@ -14,11 +14,14 @@ from collections.abc import Iterator, Mapping, Sequence
 from dataclasses import dataclass, field
 from decimal import Decimal
 from pathlib import Path
-from typing import Any, BinaryIO
+from typing import TYPE_CHECKING, Any, BinaryIO
 
 from plantbal import limits
 from plantbal.faults import InputFault, Place, read_bytes, too_large, unread
 from plantbal.sentence import Sentence
+
+if TYPE_CHECKING:
+    from plantbal.workbook.hourheads import HoursAcross
 
 # How the letters of columns begin: Z is the 26th.
 _LETTERS = 26
@@ -152,6 +155,8 @@ class Sheet:
         Whose numbers and days it has, if others than the workbook.
     taken : dict of int to bool
         The rows that a mapping has taken: whether they are heads, or skipped.
+    across : HoursAcross or None
+        Its heads that are the hours of a day, if a mapping says so.
     """
 
     file: str
@@ -163,6 +168,7 @@ class Sheet:
     word: str = ""
     locale: str = ""
     taken: dict[int, bool] = field(default_factory=dict)
+    across: HoursAcross | None = None
 
     def place(self, line: int | None = None, column: int | None = None, head: str = "") -> Place:
         """Return a place in it; column 0 is that of a cell whose column isn't there."""

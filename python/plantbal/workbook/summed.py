@@ -110,15 +110,22 @@ _NUMBERS = ("row", "count", "hours")
 
 
 def cells_text(cells: Sequence[Cell]) -> str:
-    """Return cells as a spreadsheet writes them; those below each other are a range."""
+    """Return cells as a spreadsheet writes them; those below or beside each other are a range."""
     runs: list[list[Cell]] = []
     for cell in cells:
-        last = runs[-1][-1] if runs else None
-        if last is not None and (cell.column, cell.line) == (last.column, last.line + 1):
+        if runs and _goes_on(runs[-1], cell):
             runs[-1].append(cell)
         else:
             runs.append([cell])
     return " ".join(":".join(map(_name, (run[0], run[-1])[: len(run)])) for run in runs)
+
+
+def _goes_on(run: list[Cell], cell: Cell) -> bool:
+    """Say whether a cell is the next one of a run, in the direction of the run."""
+    down, right = cell.line - run[-1].line, cell.column - run[-1].column
+    if (down, right) not in ((1, 0), (0, 1)):
+        return False
+    return len(run) == 1 or (run[0].line == run[-1].line) == (down == 0)
 
 
 def _name(cell: Cell) -> str:

@@ -15,7 +15,7 @@ from pathlib import Path
 from django.utils.translation import gettext as _
 
 from plantbal.faults import Fault
-from plantbal.workbook.mapping.applying import sheet_mapping
+from plantbal.workbook.mapping.finding import sheet_mapping
 from plantbal.workbook.mapping.form import (
     DAY_OF_MONTH,
     HOUR,
@@ -373,8 +373,11 @@ def _tabled(
 def _others(
     own: SheetMapping, at: int, why: Mapping[Path_, str]
 ) -> list[tuple[str, str, str, str]]:
-    """Return what else there is to say of a sheet: its year, what holds in each row, counters."""
+    """Return what else there is to say of a sheet: its year, hours, what holds in each row, counters."""
     found = []
+    if own.hours:
+        found.append((f"hours-{at}", _("hours"), own.hours, why.get(("hours",), "")))
+        found.append((f"twice-{at}", _("an hour that comes twice"), own.twice, ""))
     if own.year:
         found.append((f"year-{at}", _("year"), own.year, why.get(("year",), "")))
     for what, pairs in (("given", own.given), ("counters", own.counters)):
@@ -407,6 +410,8 @@ def _sheet_by(form: MappedSheet, posted: Mapping[str, str]) -> SheetMapping:
         month=_text(posted, f"month-{at}", own.month),
         unit=_text(posted, f"all-{at}", own.unit),
         year=_text(posted, f"year-{at}", own.year),
+        hours=_text(posted, f"hours-{at}", own.hours),
+        twice=_text(posted, f"twice-{at}", own.twice),
         given=_tabled("given", own.given, at, posted),
         counters=_tabled("counters", own.counters, at, posted),
         columns=columns,

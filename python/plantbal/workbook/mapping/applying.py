@@ -8,8 +8,6 @@ later, a column or a row of figures that no reader takes.
 from __future__ import annotations
 
 import datetime
-import fnmatch
-import glob
 import re
 from collections.abc import Iterator, Sequence
 from dataclasses import replace
@@ -18,7 +16,10 @@ from decimal import Decimal
 from plantbal.faults import InputFault
 from plantbal.sentence import Sentence, phrase
 from plantbal.workbook.cells import symbols
+from plantbal.workbook.hourheads import HoursAcross, NamedBy, hour_heads
+from plantbal.workbook.mapping.finding import sheet_mapping, unmapped
 from plantbal.workbook.mapping.form import (
+    BOTH,
     DAY_OF_MONTH,
     HEAD,
     HOUR,
@@ -39,7 +40,7 @@ from plantbal.workbook.mapping.parts import sheet_parts, without_empty
 from plantbal.workbook.mapping.times import time_of, with_time
 from plantbal.workbook.mapping.profile import is_day_number
 from plantbal.workbook.mapping.vocabulary import is_total, plain_word
-from plantbal.workbook.sheetkinds import PASSED, SHEETS
+from plantbal.workbook.sheetkinds import SHEETS
 from plantbal.workbook.sheets import Sheet, Value, letters
 from plantbal.workbook.units import UNITS, is_rate, unit_of
 from plantbal.workbook.wide import OF_TANKS
@@ -63,7 +64,7 @@ def applied(mapping: WorkbookMapping, sheets: Sequence[Sheet]) -> list[Sheet]:
     for sheet in sheets:
         own = sheet_mapping(mapping, sheet)
         if own is None:
-            found.append(_unmapped(sheet))
+            found.append(unmapped(sheet))
         elif not own.kind or (own.plant and own.plant != mapping.plant):
             why = (
                 "as the mapping says"
@@ -93,34 +94,6 @@ def _settings(
     return [Sheet(sheets[0].file, "settings of the mapping", lines, word="settings")]
 
 
-def sheet_mapping(mapping: WorkbookMapping, sheet: Sheet) -> SheetMapping | None:
-    """Return what a mapping says of a sheet: by its whole name, or by the first pattern."""
-    name = sheet.name.strip().casefold()
-    whole = [each for each in mapping.sheets if each.name.strip().casefold() == name]
-    like = [each for each in mapping.sheets if fnmatch.fnmatchcase(name, _pattern(each.name))]
-    return next(iter([*whole, *like]), None)
-
-
-def _pattern(name: str) -> str:
-    """Return a name of a mapping as a pattern: no mark in it but `*` stands for anything."""
-    return glob.escape(name.strip().casefold()).replace("[*]", "*")
-
-
-def _unmapped(sheet: Sheet) -> Sheet:
-    """Return a sheet that the mapping doesn't name, if it is one of a plant's workbook, or empty."""
-    word = re.split(r"[^a-z]", sheet.name.strip().casefold(), maxsplit=1)[0]
-    if len(sheet.lines) > 1 and word not in SHEETS and word not in PASSED:
-        raise InputFault(
-            "the mapping has no sheet of this name",
-            place=sheet.place(),
-            remedy=Sentence(
-                'write name = "{name}" and its kind under [[sheet]], or kind = "" to skip it',
-                name=sheet.name,
-            ),
-        )
-    return sheet
-
-
 class Applying:
     """Turns a sheet into one of its kind.
 
@@ -142,14 +115,17 @@ class Applying:
         self.lines: list[Line] = [(line, list(values)) for line, values in given.lines]
         self.taken: dict[int, bool] = {}  # rows that are heads, and those that are skipped
         self.notes: list[str] = []
+        self.names = {plain_text(key): value for key, value in mapping.names.items()}
+        self.words = {plain_word(key): value for key, value in mapping.words.items()}
         # columns that the sheet itself doesn't have
         self.beside: dict[str, Value] = {head: self._given(v) for head, v in own.given.items()}
         self.width = 0  # where these stand
-        self.names = {plain_text(key): value for key, value in mapping.names.items()}
-        self.words = {plain_word(key): value for key, value in mapping.words.items()}
+        self.across: HoursAcross | None = None
 
     def _given(self, text: str) -> Value:
         """Return a figure of the mapping, which has a decimal point, as the sheet would write it."""
+        if plain_text(text) in self.names:
+            return self.names[plain_text(text)]
         if re.fullmatch(r"[0-9]+(?:\.[0-9]+)?", text):
             return Decimal(text)
         locale = self.own.locale or self.mapping.locale
@@ -174,6 +150,8 @@ class Applying:
             at = self._head_row()
             columns = self._columns(self.lines[at][1])
             self._take_heads(at, columns)
+            if self.own.hours:
+                self._take_hours(at, columns)
             above, heads = self._above(at, columns), self._heads(at, columns)
             self.lines = [*above, *heads, *self._body(self.lines[at + 1 :], columns)]
         else:
@@ -186,6 +164,7 @@ class Applying:
             lines=self.lines,
             taken=self.taken,
             notes=notes,
+            across=self.across,
         )
 
     def fault(self, line: int, column: int, what: str, remedy: str) -> InputFault:
@@ -259,6 +238,21 @@ class Applying:
             if _is_unit_row(values) or sum(isinstance(value, str) for value in values) > 1:
                 self.taken[above] = True
 
+    def _take_hours(self, at: int, columns: dict[int, str]) -> None:
+        """Find the heads that are the hours of a day, and see that day and tag are there too."""
+        line, heads = self.lines[at]
+        free = [None if n in columns else value for n, value in enumerate(heads)]
+        hours = hour_heads(free)
+        if not hours:
+            what = "no head of this row is an hour of a day"
+            raise self.fault(line, 0, what, "correct the mapping, or leave hours out of it")
+        there = {*columns.values(), *self.beside}
+        for of, words in (("day", {"day", DAY_OF_MONTH}), ("tag", {"tag"})):
+            if not there & words:
+                what = Sentence("no column has the {of} of the hours", of=of)
+                raise self.fault(line, 0, what, "correct the mapping")
+        self.across = HoursAcross(line, hours, NamedBy(self.own.hours), self.own.twice == BOTH)
+
     def _heads_of(self, heads: list[Value]) -> Iterator[tuple[int, str]]:
         """Give the places and texts of heads, as the keys of the mapping have them."""
         keys = {plain_word(key): key for key in (*self.own.units, *self.own.columns)}
@@ -310,7 +304,7 @@ class Applying:
                 row.append(None if to in ("", TIME, HOUR, SITE) else self._head_of(to))
         self.taken[line] = True
         units = {c: u for c, u in self.units.items() if c < len(row) and row[c] is not None}
-        if not self.kind.columns and "value" in columns.values():
+        if not self.kind.columns and ("value" in columns.values() or self.across is not None):
             if "unit" not in columns.values() and units:
                 self.beside["unit"] = next(iter(units.values()))
             units = {}

@@ -18,6 +18,7 @@ from typing import Any
 from plantbal import limits
 from plantbal.faults import Fault, InputFault, Place, decoded, read_bytes
 from plantbal.workbook.cells import check_locale
+from plantbal.workbook.hourheads import NamedBy
 from plantbal.workbook.sheetkinds import SHEETS
 
 OPEN = "?"
@@ -26,6 +27,8 @@ FORM = 1
 DAY_OF_MONTH, TIME, HOUR, SITE = "day of month", "time", "hour", "plant"
 # Where the year of months stands: in two digits of their own heads, or in the name of the sheet.
 HEAD, NAME = "head", "name"
+# That the figure of an hour which comes twice is of both.
+BOTH = "both"
 _LONG = ("day", "tag", "value", "unit")
 _SHEET_TABLES = ("columns", "units", "given", "counters")
 
@@ -65,6 +68,10 @@ class SheetMapping:
         What holds in each row of a column of its kind that the sheet doesn't have.
     counters : dict of str to str
         The figure at which the counter of a head begins again at 0; empty if it is none.
+    hours : str
+        What names the hours of a day that are heads: ``begin``, ``end`` or ``count``; empty without such.
+    twice : str
+        ``both`` if the figure of an hour that comes twice, and has one column, is of both hours.
     """
 
     name: str
@@ -81,6 +88,8 @@ class SheetMapping:
     year: str = ""
     given: Mapping[str, str] = field(default_factory=dict)
     counters: Mapping[str, str] = field(default_factory=dict)
+    hours: str = ""
+    twice: str = ""
 
 
 @dataclass(frozen=True)
@@ -179,6 +188,7 @@ class _MappingReading:
         if found.kind and found.kind != OPEN and found.kind not in SHEETS:
             remedy = f"write one of {', '.join(SHEETS)}, or nothing to skip the sheet"
             raise self.fault(found.kind, f"there is no kind of sheet {found.kind!r}", remedy)
+        self._check_hours(found)
         self._check_columns(found)
         self._locale(found.locale)
         if found.month and not re.fullmatch(r"name|\?|[0-9]{4}-(0[1-9]|1[0-2])", found.month):
@@ -192,12 +202,30 @@ class _MappingReading:
                 what = f"{figure!r} isn't a figure at which a counter begins again"
                 raise self.fault(head, what, "write a whole number, such as 1000000")
         for head in found.given:
-            if found.kind in SHEETS and head not in {
-                each.head for each in SHEETS[found.kind].columns
-            }:
+            known = (
+                {each.head for each in SHEETS[found.kind].columns}
+                if found.kind in SHEETS
+                else {head}
+            )
+            if head not in known | ({"tag"} if found.hours else set()):
                 what = f"the sheet {found.kind} has no column {head!r}"
                 raise self.fault(head, what, f"it has {', '.join(SHEETS[found.kind].heads)}")
         return found
+
+    def _check_hours(self, found: SheetMapping) -> None:
+        """Refuse what can't be said of the hours of a day across."""
+        words = [each.value for each in NamedBy]
+        if found.hours and found.hours not in (OPEN, *words):
+            remedy = f"write one of {', '.join(words)}, or nothing without such heads"
+            raise self.fault("hours", f"{found.hours!r} doesn't name hours", remedy)
+        if found.hours and found.kind not in ("readings", OPEN):
+            what = f"a sheet {found.kind!r} has no hours of a day across"
+            raise self.fault("hours", what, "leave hours out")
+        if found.twice and (found.twice != BOTH or not found.hours):
+            remedy = 'write "both" if the figure of one column is of both hours, or leave it out'
+            raise self.fault(
+                "twice", f"{found.twice!r} doesn't say of which hour a figure is", remedy
+            )
 
     def _check_columns(self, found: SheetMapping) -> None:
         if not found.kind or found.kind == OPEN:

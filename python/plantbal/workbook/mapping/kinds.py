@@ -74,6 +74,8 @@ class KindsOfSheets:
         cover = cover_meaning(name)
         if cover is not None and not any(c.has_figures for c in profile.columns):
             return "", cover.said()
+        if profile.hours and not self._has_tanks(profile):
+            return "readings", f"{len(profile.hours)} of its heads are the hours of a day"
         meanings = [each for each in sheet_meanings(name) if each.of in SHEETS]
         fit = (each for each in meanings if self._fits(profile, each.of))
         meaning = next(fit, next(iter(meanings), None))
@@ -109,6 +111,11 @@ class KindsOfSheets:
             OPEN,
             f"there are figures in it, and neither name nor heads say what: {_kinds_said()}",
         )
+
+    def _has_tanks(self, profile: SheetProfile) -> bool:
+        """Say whether a column of a sheet has tanks of the plant, so that its figures are levels."""
+        texts = [set(column.names()) for column in profile.columns if column.has_texts]
+        return any(2 * len(own.intersection(self.known.tanks)) > len(own) for own in texts if own)
 
     def _has_tags_beside(self, sheet: Sheet) -> bool:
         """Say whether a sheet has the days of a month across, and rows with tags below them."""

@@ -11,6 +11,7 @@ from dataclasses import dataclass, field
 from decimal import Decimal
 
 from plantbal.workbook.cells import MISSING
+from plantbal.workbook.hourheads import HourHead, hour_head, hour_heads
 from plantbal.workbook.mapping.known import tag_in
 from plantbal.workbook.mapping.vocabulary import column_meanings, is_total, plain_word
 from plantbal.workbook.sheets import NoValue, Sheet, Value, letters
@@ -19,6 +20,8 @@ from plantbal.workbook.units import LENGTHS, UNITS, VOLUMES, is_rate, unit_of
 HEADS_WITHIN = 40
 _MANY = 20  # steps by which figures rise that aren't called a counter's
 _DAYS_OF_MONTH = 28  # and up to 31
+_HOURS = 20  # heads that are numbers and may be hours of a day
+_CLOCK_HOURS = 8  # heads that are hours and no mere numbers
 _SAMPLE = 400  # rows below the heads that are looked at
 _DATE = re.compile(
     r"[0-9]{1,4}\s?[./-]\s?[0-9]{1,2}\s?[./-]\s?[0-9]{1,4}\.?([ T].*)?"
@@ -134,6 +137,8 @@ class SheetProfile:
         The row of units below the heads.
     totals : list of str
         The texts with which rows of sums begin.
+    hours : dict of int to HourHead
+        The heads that are the hours of a day, by the places of their columns.
     """
 
     sheet: Sheet
@@ -142,6 +147,7 @@ class SheetProfile:
     titles: list[str] = field(default_factory=list)
     units_row: int | None = None
     totals: list[str] = field(default_factory=list)
+    hours: dict[int, HourHead] = field(default_factory=dict)
 
     @property
     def heads_line(self) -> int:
@@ -164,7 +170,9 @@ def profile_of(sheet: Sheet, known: Sequence[str] = ()) -> SheetProfile:
         The tags, streams and tanks of the plant, which may be heads.
     """
     found = SheetProfile(sheet)
-    found.at = _head_row(sheet, {plain_word(name) for name in known})
+    found.at, found.hours = hours_across(sheet, known)
+    if found.at is None:
+        found.at = _head_row(sheet, {plain_word(name) for name in known})
     if found.at is None:
         return found
     found.titles = [
@@ -245,6 +253,50 @@ def _head_row(sheet: Sheet, known: set[str]) -> int | None:
             break
         place += 1  # names in two rows, such as streams and their tags: the lower row tells
     return place
+
+
+def hours_across(sheet: Sheet, known: Sequence[str]) -> tuple[int | None, dict[int, HourHead]]:
+    """Return the place of a row that has the hours of a day, above figures and beside days."""
+    for at, (_, values) in enumerate(sheet.lines[:HEADS_WITHIN]):
+        if any(sort_of(value) is CellSort.DAY for value in values if hour_head(value) is None):
+            continue
+        run = _hours_in_a_row(values)
+        is_plain = all(head.is_plain for head in run.values())
+        after = values[max(run) + 1] if run and max(run) + 1 < len(values) else None
+        if len(run) < (_HOURS if is_plain else _CLOCK_HOURS) or is_day_number(after):
+            continue
+        if any(str(values[column]) in known for column in run):
+            continue
+        below = [row for _, row in sheet.lines[at + 1 : at + 1 + _SAMPLE]]
+        if any(_are_days(values, below, column) for column in range(min(run))):
+            return at, run
+    return None, {}
+
+
+def _hours_in_a_row(values: Sequence[Value]) -> dict[int, HourHead]:
+    """Return the most hours that follow each other in columns beside each other."""
+    best: dict[int, HourHead] = {}
+    run: dict[int, HourHead] = {}
+    for column, head in hour_heads(values).items():
+        before = run.get(column - 1)
+        if before is not None:
+            step = (head.number - before.number) % 24
+            follows = step == (0 if head.is_again else 1)
+        if before is None or not follows:
+            run = {}
+        run[column] = head
+        best = run if len(run) > len(best) else best
+    return best
+
+
+def _are_days(heads: list[Value], rows: list[list[Value]], column: int) -> bool:
+    """Say whether a column has days, or the days of a month by their numbers and a head for these."""
+    there = [row[column] for row in rows if column < len(row) and row[column] is not None]
+    head = heads[column] if column < len(heads) else None
+    if isinstance(head, str) and any(each.of == "day" for each in column_meanings(head)):
+        if there and all(map(is_day_number, there)):
+            return True
+    return 2 * sum(sort_of(value) is CellSort.DAY for value in there) > len(there)
 
 
 def days_across(sheet: Sheet) -> int | None:

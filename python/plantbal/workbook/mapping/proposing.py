@@ -14,6 +14,7 @@ from collections.abc import Iterable, Mapping, Sequence
 from dataclasses import dataclass, field, replace
 from decimal import Decimal
 
+from plantbal.workbook.mapping.acrosshours import HourColumns
 from plantbal.workbook.mapping.columns import Columns
 from plantbal.workbook.mapping.dating import month_said
 from plantbal.workbook.mapping.form import OPEN, SITE, Path_, SheetMapping, WorkbookMapping
@@ -64,7 +65,7 @@ def _values(mapping: WorkbookMapping) -> Iterable[tuple[Path_, str]]:
     yield from ((("names", key), value) for key, value in mapping.names.items())
     yield from ((("words", key), value) for key, value in mapping.words.items())
     for at, sheet in enumerate(mapping.sheets):
-        for key in ("kind", "locale", "month", "year", "unit", "plant"):
+        for key in ("kind", "locale", "month", "year", "unit", "plant", "hours"):
             yield ("sheet", at, key), getattr(sheet, key)
         for key in ("columns", "units", "given", "counters"):
             for head, value in getattr(sheet, key).items():
@@ -187,9 +188,12 @@ class _Proposing:
             return SheetMapping(name, kind)
         if kind == "readings" and self.profiles[at].at is None:
             return self._across(at, name)
-        columns = Columns(
-            self.profiles[at], SHEETS[kind], self.known, self._streams_have_units(), self._gauged()
-        )
+        columns: Columns | HourColumns
+        if kind == "readings" and self.profiles[at].hours:
+            columns = HourColumns(self.profiles[at], self.known, self._streams_have_units())
+        else:
+            has_units, gauged = self._streams_have_units(), self._gauged()
+            columns = Columns(self.profiles[at], SHEETS[kind], self.known, has_units, gauged)
         found = columns.mapping(name)
         for key, text in columns.evidence.items():
             self.evidence[(*path, *key)] = text
