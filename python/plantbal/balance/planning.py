@@ -25,7 +25,8 @@ from plantbal.faults import Fault, InputFault, Place, WordsFault
 from plantbal.files import replacing, write_text
 from plantbal.report.chart import ENDINGS
 from plantbal.statuses import ExitStatus
-from plantbal.workbook.cells import Reader, check_locale
+from plantbal.workbook.cells import Reader
+from plantbal.workbook.locales import check_locale
 from plantbal.workbook.sheets import Cell, Sheet, read_workbook
 
 _HEADS = ("stream", "component", "cost", "error")

@@ -17,7 +17,8 @@ from plantbal.balance.causes import BalanceCause
 from plantbal.balance.problem import ENV, Flow, Measured, Problem, solids_of, water_of
 from plantbal.balance.reading import GRAMS, MILLION
 from plantbal.faults import InputFault, Place
-from plantbal.workbook.cells import Reader, check_locale
+from plantbal.workbook.cells import Reader
+from plantbal.workbook.locales import check_locale
 from plantbal.workbook.sheets import Cell, read_workbook
 from plantbal.workbook.units import DENSITIES, VOLUMES, GRAMS as UNITS
 

@@ -18,7 +18,8 @@ from plantbal.book.store import Act, Action, Store
 from plantbal.book.years import Years
 from plantbal.faults import Fault, Refusal
 from plantbal.workbook.base import PeriodDays, share_at
-from plantbal.workbook.cells import Reader, check_locale
+from plantbal.workbook.cells import Reader
+from plantbal.workbook.locales import check_locale
 from plantbal.workbook.plant import TankRow
 from plantbal.workbook.units import AMOUNTS, VOLUMES
 

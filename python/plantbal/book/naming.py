@@ -10,7 +10,8 @@ from plantbal.book.ledger import BookFact, YearLedger
 from plantbal.book.meters import Meter
 from plantbal.book.years import Years
 from plantbal.faults import Fault, Place
-from plantbal.workbook.cells import Reader, check_locale
+from plantbal.workbook.cells import Reader
+from plantbal.workbook.locales import check_locale
 from plantbal.workbook.sheets import Cell, Sheet
 
 _DAY = datetime.timedelta(1)

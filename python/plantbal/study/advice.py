@@ -23,7 +23,8 @@ from plantbal.schema import schema
 from plantbal.session import Session
 from plantbal.statuses import ExitStatus
 from plantbal.study.causes import OfferCause
-from plantbal.workbook.cells import Reader, check_locale
+from plantbal.workbook.cells import Reader
+from plantbal.workbook.locales import check_locale
 from plantbal.workbook.sheets import Cell, read_workbook
 
 HELP = """

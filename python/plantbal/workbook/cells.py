@@ -1,4 +1,4 @@
-"""Cells as numbers, days, amounts and errors, written as a locale writes them."""
+"""Cells as numbers, amounts and errors, written as a locale writes them; what was rounded is kept."""
 
 from __future__ import annotations
 
@@ -8,13 +8,14 @@ import re
 from dataclasses import dataclass, field
 from decimal import Context, Decimal, Inexact
 from fractions import Fraction
-from functools import lru_cache
 
 from plantbal.causes import Case, CausedFault
-from plantbal.faults import Fault
 from plantbal.sentence import Sentence
 from plantbal.workbook.causes import SheetCause
+from plantbal.workbook.celldays import day_of
+from plantbal.workbook.cellfaults import cell_fault
 from plantbal.workbook.figures import plain_number, without_spaces
+from plantbal.workbook.locales import symbols
 from plantbal.workbook.remedies import CellRemedy
 from plantbal.workbook.sheets import Cell, InThousands, NoValue, Percent, Shown
 from plantbal.workbook.units import (
@@ -36,9 +37,6 @@ MISSING = frozenset(
 _DIGIT = re.compile("[0-9]")
 _EXPONENT = re.compile(r"(.*[0-9.,])[eE]([+-]?[0-9]{1,3})")
 _EITHER = re.compile(r"[+-]?[1-9][0-9]{0,2}[.,][0-9]{3}")
-_DAY = re.compile(r"([0-9]{1,4})([./-])\s?([0-9]{1,2})\2\s?([0-9]{1,4})\.?")
-_TIME = re.compile(r"(.*?)[ T]+([0-9]{1,2}:[0-9]{2}(?::[0-9]{2}(?:[.,][0-9]+)?)?)")
-_NAMED = re.compile(r"([0-9]{1,2})\.?[ -]([^\W\d]+)\.?[ -]([0-9]{4})")
 _GRADE = re.compile(r"(.*?[0-9])\s*(%|[^\W\d_]+(?:/[^\W\d_]+)?)")
 EXACT = Context(prec=400, traps=[Inexact])
 # The locales whose marks are recognised in another's figures, and what their marks are called.
@@ -48,42 +46,6 @@ OWN_LOCALE = ", and --locale is {locale}"
 OTHER_TONS = ("ton", "tons", "short ton", "short tons", "st", "lt")
 # In kg/m3 the least and the greatest density that is written without its unit.
 PLAIN_DENSITY = 20, 20_000
-# Days that Excel's numbers stand for: 1954 to 2119.
-SERIALS = 20_000, 80_000
-
-
-@lru_cache
-def symbols(locale: str) -> tuple[str, str]:
-    """Return the decimal mark of a locale, and what it puts between thousands."""
-    try:
-        from babel.numbers import get_decimal_symbol, get_group_symbol
-    except ImportError as error:
-        from plantbal.faults import ToolMissing
-
-        raise ToolMissing("babel", "python3-babel") from error
-    return get_decimal_symbol(locale), get_group_symbol(locale)
-
-
-@lru_cache
-def day_order(locale: str) -> str:
-    """Return the order in which a locale writes day, month, year: ``dmy``, ``mdy``, ``ymd``."""
-    from babel.dates import get_date_format
-
-    pattern = str(get_date_format("short", locale=locale).pattern).casefold()
-    return "".join(sorted("dmy", key=pattern.index))
-
-
-@lru_cache
-def month_names(locale: str) -> dict[str, int]:
-    """Return the months by their names, in English and in a locale."""
-    from babel.dates import get_month_names
-
-    found = {}
-    for language in ("en", locale or "en"):
-        for width in ("wide", "abbreviated"):
-            for number, name in get_month_names(width, locale=language).items():
-                found[str(name).rstrip(".").casefold()] = int(number)
-    return found
 
 
 @dataclass(frozen=True, slots=True)
@@ -145,8 +107,7 @@ class Reader:
 
     def fault(self, cell: Cell, what: Case, remedy: str | Case = "", head: str = "") -> CausedFault:
         """Return a fault at a cell."""
-        do = remedy.sentence if isinstance(remedy, Case) else remedy
-        return CausedFault(what, place=cell.place(head), text=cell.text, remedy=do)
+        return cell_fault(cell, what, remedy, head)
 
     def is_missing(self, cell: Cell) -> bool:
         """Say whether nothing stands in a cell, or a word for nothing."""
@@ -230,90 +191,9 @@ class Reader:
             return SheetCause.FORMULA_FAILS(text=text), CellRemedy.CLEAR_CELL()
         return what, CellRemedy.USE_MISSING(text=text)
 
-    # ---- days
-
     def day(self, cell: Cell, head: str = "") -> datetime.date:
         """Return the day of a cell."""
-        value = cell.value
-        time: datetime.time | str | None = None
-        found: datetime.date | None = None
-        if isinstance(value, datetime.datetime):
-            found, time = value.date(), value.time()
-        elif isinstance(value, Decimal):
-            found = self._serial(cell, value)
-            time = None if value == int(value) else Sentence("{value:f} of a day", value=value % 1)
-        elif isinstance(value, str):
-            split = _TIME.fullmatch(value)
-            time = split.group(2) if split else None
-            found = self._day_of(cell, split.group(1) if split else value, head)
-        if found is None:
-            remedy: str | Case = self._of_order(cell)
-            if isinstance(value, NoValue):
-                remedy = "open the workbook and save it"
-            what = SheetCause.NOT_A_DAY(text=cell.text) if cell.text else SheetCause.NO_DAY()
-            raise self.fault(cell, what, remedy or CellRemedy.WRITE_DAY(), head)
-        if time is not None and not re.fullmatch(r"0?0:00(:00([.,]0+)?)?", str(time)):
-            what = SheetCause.TIME_OF_DAY(text=cell.text, time=time)
-            raise self.fault(cell, what, CellRemedy.DAY_ALONE(), head)
-        return found
-
-    def _of_order(self, cell: Cell) -> str | Case:
-        """Return what to do if a text is a day once its day and month are exchanged."""
-        locale, match = self.locale_of(cell), _DAY.fullmatch(cell.text)
-        if not locale or match is None or match.group(2) == "." or len(match.group(1)) == 4:
-            return ""
-        order = day_order(locale)
-        months = [part for part in match.group(1, 3) if int(part) <= 12]
-        if order == "ymd" or len(months) != 1:
-            return ""
-        return (CellRemedy.MONTH_FIRST if order == "mdy" else CellRemedy.DAY_FIRST)(locale=locale)
-
-    def _serial(self, cell: Cell, number: Decimal) -> datetime.date | None:
-        """Return the day of one of Excel's numbers."""
-        if not SERIALS[0] <= number <= SERIALS[1]:
-            return None
-        return cell.sheet.epoch + datetime.timedelta(int(number))
-
-    def _day_of(self, cell: Cell, text: str, head: str) -> datetime.date | None:
-        text = text.strip()
-        if re.fullmatch(r"[0-9]{5}", text):
-            return self._serial(cell, Decimal(text))
-        named = _NAMED.fullmatch(text)
-        if named:
-            month = month_names(self.locale_of(cell)).get(named.group(2).casefold())
-            return _date(int(named.group(3)), month or 0, int(named.group(1)))
-        match = _DAY.fullmatch(text)
-        if not match:
-            return None
-        first, part, second, third = match.groups()
-        if len(first) == 4:
-            return _date(int(first), int(second), int(third))
-        if part != "." and len(first) == len(third) == 2 and not self.locale_of(cell):
-            if _date(2000 + int(first), int(second), int(third)):
-                remedy = "write the year with four digits, or use --locale"
-                what = SheetCause.YEAR_FIRST_OR_LAST(text=text)
-                raise self.fault(cell, what, remedy, head)
-        order = self._order(cell, text, part, int(first), int(second), head)
-        numbers = dict(zip(order, (first, second, third)))
-        if len(numbers["y"]) not in (2, 4):
-            return None
-        year = int(numbers["y"])
-        if len(numbers["y"]) == 2:
-            year += 2000 if year < 70 else 1900
-        return _date(year, int(numbers["m"]), int(numbers["d"]))
-
-    def _order(self, cell: Cell, text: str, part: str, first: int, second: int, head: str) -> str:
-        """Return the order of a day's parts, of which the year is not the first."""
-        if part == ".":
-            return "dmy"
-        if self.locale_of(cell):
-            order = day_order(self.locale_of(cell))
-            if order != "ymd":
-                return order
-        elif max(first, second) > 12:
-            return "dmy" if first > 12 else "mdy"
-        remedy = "use --locale en_GB if the day comes first, --locale en_US if the month does"
-        raise self.fault(cell, SheetCause.TWO_DAYS(text=text), remedy, head)
+        return day_of(cell, self.locale_of(cell), head)
 
     # ---- amounts
 
@@ -481,25 +361,3 @@ class Reader:
             else:
                 grams = number * self.factor(cell, unit, density, head)
         return Error(share, grams, mm)
-
-
-def _date(year: int, month: int, day: int) -> datetime.date | None:
-    try:
-        return datetime.date(year, month, day)
-    except ValueError:
-        return None
-
-
-def check_locale(locale: str) -> str:
-    """Return a locale, or say that there is none of this name."""
-    if not locale:
-        return ""
-    from babel import Locale, UnknownLocaleError
-
-    try:
-        return str(Locale.parse(locale.replace("-", "_")))
-    except (ValueError, UnknownLocaleError):
-        remedy = "use de, en_GB, fr or another"
-        raise Fault(
-            Sentence("there is no locale {locale!r}", locale=locale), text=locale, remedy=remedy
-        ) from None

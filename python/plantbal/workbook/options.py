@@ -4,7 +4,8 @@ from __future__ import annotations
 
 from dataclasses import dataclass, replace
 
-from plantbal.workbook.cells import MISSING, Reader, check_locale
+from plantbal.workbook.cells import MISSING, Reader
+from plantbal.workbook.locales import check_locale
 from plantbal.workbook.mapping.applying import applied
 from plantbal.workbook.mapping.finding import sheet_mapping
 from plantbal.workbook.mapping.form import WorkbookMapping

@@ -12,7 +12,8 @@ from plantbal.sentence import Sentence, phrase
 from plantbal.workbook.acrosshours import AcrossDays, AcrossRow
 from plantbal.workbook.bookings import Bookings
 from plantbal.workbook.causes import SheetCause
-from plantbal.workbook.cells import Error, Reader, day_order
+from plantbal.workbook.cells import Error, Reader
+from plantbal.workbook.locales import day_order
 from plantbal.workbook.daily import Daily, long_by_day, wide_by_day
 from plantbal.workbook.fates import Fate, is_unit
 from plantbal.workbook.hourheads import HoursAcross

@@ -21,7 +21,8 @@ from plantbal.model.forms import day_number
 from plantbal.model.state import State
 from plantbal.model.words import refusal_of
 from plantbal.workbook.causes import SheetCause
-from plantbal.workbook.cells import Error, Reader, check_locale
+from plantbal.workbook.cells import Error, Reader
+from plantbal.workbook.locales import check_locale
 from plantbal.workbook.units import AMOUNTS
 from plantbal_office.causes import GridCause, GridRemedy
 from plantbal_office.look.days import place_of

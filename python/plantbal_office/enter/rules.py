@@ -28,7 +28,7 @@ from plantbal.model.remedies import NAME_FORM, NAME_LETTERS, NAME_LONG, NAME_SUC
 from plantbal.model.state import State
 from plantbal.model.words import FORM_OF_NOTHING, FORM_OF_TEXT, refusal_of
 from plantbal.schema import schema
-from plantbal.workbook import cells, units
+from plantbal.workbook import celldays, cells, locales, units
 from plantbal.workbook.causes import SheetCause
 from plantbal.workbook.remedies import CellRemedy
 from plantbal.workbook.sheets import EPOCH
@@ -292,15 +292,15 @@ def _reading(locale: str) -> dict[str, Any]:
         )
     }
     known = (*units.AMOUNTS, *units.DENSITIES, *units.LENGTHS, *units.GRADES, *units.TEMPERATURES)
-    own = cells.check_locale(locale)
+    own = locales.check_locale(locale)
     return {
         "locale": own,
-        "marks": cells.symbols(own),
-        "others": [[name, said, *cells.symbols(name)] for name, said in cells.MARKS.items()],
-        "order": cells.day_order(own),
-        "months": cells.month_names(own),
+        "marks": locales.symbols(own),
+        "others": [[name, said, *locales.symbols(name)] for name, said in cells.MARKS.items()],
+        "order": locales.day_order(own),
+        "months": locales.month_names(own),
         "epoch": str(EPOCH),
-        "serials": cells.SERIALS,
+        "serials": celldays.SERIALS,
         "units": exact
         | {
             "known": known,

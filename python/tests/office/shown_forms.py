@@ -36,6 +36,7 @@ WHOLE = (
         "workbook/acrosshours",
         "workbook/assays",
         "workbook/bookings",
+        "workbook/celldays",
         "workbook/cells",
         "workbook/cellforms",
     ),

@@ -17,8 +17,8 @@ from typing import Any
 
 from plantbal import limits
 from plantbal.faults import Fault, InputFault, Place, decoded, read_bytes
-from plantbal.workbook.cells import check_locale
 from plantbal.workbook.hourheads import NamedBy
+from plantbal.workbook.locales import check_locale
 from plantbal.workbook.sheetkinds import SHEETS
 
 OPEN = "?"

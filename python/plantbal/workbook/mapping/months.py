@@ -8,7 +8,7 @@ from __future__ import annotations
 import re
 from functools import lru_cache
 
-from plantbal.workbook.cells import month_names
+from plantbal.workbook.locales import month_names
 
 _LOCALES = ("en", "de", "es", "fr")
 _NUMBERS = re.compile(
