@@ -34,6 +34,8 @@ _plantbal_desk() {
         lint:--ignore) _plantbal_words 'refused nothing-asked missing-reading missing-dip no-period after-report one-sided never-served near-names magnitude small-deviation large-deviation density exchanged strap-slope scatter worse-class no-critical no-balance after-balance unchecked-grade unused-assay grade no-cost no-account nearly-full negative-flow tank-jump tank-range zero frozen negative copy estimated no-owner untested no-elimination no-transfer unused-dip not-reported'; return ;;
         lint:--timeout) :; return ;;
         lint:--book) _plantbal_files -d; return ;;
+        explain:--fact) :; return ;;
+        explain:--book) _plantbal_files -d; return ;;
         explain:--program) _plantbal_files -f; return ;;
         check:--program) _plantbal_files -f; return ;;
         archive:--period) :; return ;;
@@ -220,7 +222,7 @@ _plantbal_desk() {
             _plantbal_files -f
             return
         fi
-        _plantbal_words '-h --help --program' ;;
+        _plantbal_words '-h --help --fact --book --program' ;;
     check)
         if [[ $here != -* ]]; then
             _plantbal_files -f

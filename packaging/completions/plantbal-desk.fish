@@ -51,6 +51,8 @@ complete -c plantbal-desk -n '__fish_seen_subcommand_from lint' -l timeout -x -d
 complete -c plantbal-desk -n '__fish_seen_subcommand_from lint' -l book -x -a '(__fish_complete_directories)' -d 'the book that the session is from: what it has quieted is counted, but not listed'
 complete -c plantbal-desk -n '__fish_seen_subcommand_from lint' -F
 complete -c plantbal-desk -n '__fish_seen_subcommand_from explain' -s h -l help -d 'show this help message and exit'
+complete -c plantbal-desk -n '__fish_seen_subcommand_from explain' -l fact -x -d 'the fact to explain, by its id'
+complete -c plantbal-desk -n '__fish_seen_subcommand_from explain' -l book -x -a '(__fish_complete_directories)' -d 'the book that the session is from'
 complete -c plantbal-desk -n '__fish_seen_subcommand_from explain' -l program -r -F -d 'the program, which checks a report'
 complete -c plantbal-desk -n '__fish_seen_subcommand_from explain' -F
 complete -c plantbal-desk -n '__fish_seen_subcommand_from explain' -F

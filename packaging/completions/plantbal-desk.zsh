@@ -39,6 +39,8 @@ _plantbal_desk() {
         specifications=(
             '-h[show this help message and exit]'
             '--help[show this help message and exit]'
+            '--fact=[the fact to explain, by its id]:ID:'
+            '--book=[the book that the session is from]:FOLDER:_files -/'
             '--program=[the program, which checks a report]:PATH:_files'
             '1:word:(explain)'
             '2:SESSION:_files'

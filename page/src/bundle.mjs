@@ -3,7 +3,7 @@
  * output. What isn't compared here is said beside it.
  */
 import { PlantbalError, STATUS } from "../plantbal.mjs";
-import { FILES, SEAL, unpacked } from "./zip.mjs";
+import { CARRIED, SEAL, unpacked } from "./zip.mjs";
 
 /** What a step of the audit came to. */
 export const STEP = Object.freeze({ GOOD: "good", NOTE: "note", WRONG: "wrong" });
@@ -49,7 +49,7 @@ export function difference(one, other) {
   return { line, one: lineAt(one), other: lineAt(other) };
 }
 
-function sumsOf(text) {
+function sumsOf(text, names) {
   const found = new Map();
   for (const line of text.split("\n")) {
     if (line === "") continue;
@@ -57,7 +57,7 @@ function sumsOf(text) {
     if (parts === null || found.has(parts[2])) return null;
     found.set(parts[2], parts[1]);
   }
-  const wanted = Object.keys(FILES).filter((name) => name !== "SHA256SUMS");
+  const wanted = names.filter((name) => name !== "SHA256SUMS");
   return found.size === wanted.length && wanted.every((name) => found.has(name)) ? found : null;
 }
 
@@ -97,7 +97,7 @@ export async function audited(bytes, core) {
 }
 
 function compareSums(files, digests, step) {
-  const sums = sumsOf(new TextDecoder().decode(files.get("SHA256SUMS")));
+  const sums = sumsOf(new TextDecoder().decode(files.get("SHA256SUMS")), [...files.keys()]);
   if (sums === null) {
     step(STEP.WRONG, "b_sums_form");
     return;
@@ -110,7 +110,7 @@ function compareSums(files, digests, step) {
 }
 
 function compareManifest(manifest, digests, step) {
-  const named = ["session.csv", "output.csv", "summary.txt"];
+  const named = ["session.csv", "output.csv", ...Object.keys(CARRIED).filter((name) => digests.has(name)), "summary.txt"];
   const differs = manifest === null ? "manifest.json" : named.find((name) => manifest.files[name] !== digests.get(name));
   if (differs === undefined) step(STEP.GOOD, "b_manifest");
   else step(STEP.WRONG, "b_manifest_wrong", { name: differs });

@@ -4,10 +4,12 @@
  * packed by another packer, as mail gateways do: in another order, with other times, with sizes that stand after the bytes of a file.
  */
 
-/** The files of a bundle, in order, and the most bytes that each may have. */
+/** The files that each bundle has, in order, and the most bytes that each may have. */
 export const FILES = Object.freeze({
   "session.csv": 67108864, "output.csv": 268435456, "summary.txt": 67108864, "manifest.json": 67108864, SHA256SUMS: 65536,
 });
+/** The files of a book that a bundle may have between the output and the summary. */
+export const CARRIED = Object.freeze({ "measured.csv": 268435456, "summed.csv": 67108864 });
 export const SEAL = "SHA-256 of the bytes before this comment: ";
 
 /** Why a zip can't be read, as a key of the words. */
@@ -19,7 +21,7 @@ export class ZipFault extends Error {
   }
 }
 
-const NAMES = Object.keys(FILES);
+const MOST = Object.freeze({ ...FILES, ...CARRIED });
 const HEAD = 30, ENTRY = 46, END = 22;
 const STORED = 0, DEFLATED = 8, DESCRIBED = 0x0008, ALLOWED_FLAGS = 0x080e; // sizes after the bytes; speed of packing, UTF-8
 const RENAMING = [0x0001, 0x7075, 0x6375]; // extra fields that give a file another size, name or comment
@@ -35,7 +37,9 @@ export async function unpacked(bytes) {
   const count = view.getUint16(end + 10, true), begin = view.getUint32(end + 16, true);
   const entries = directory(view, bytes, begin, end, count);
   const names = entries.map(({ name }) => name);
-  if ([...names].sort().join() !== [...NAMES].sort().join()) throw new ZipFault("zip_other", { names: names.join(", ") || "—" });
+  const [first, second, ...rest] = Object.keys(FILES);
+  const wanted = [first, second, ...Object.keys(CARRIED).filter((name) => names.includes(name)), ...rest];
+  if ([...names].sort().join() !== [...wanted].sort().join()) throw new ZipFault("zip_other", { names: names.join(", ") || "—" });
   const files = new Map();
   let at = 0, loose = "";
   for (const entry of entries) {
@@ -46,7 +50,7 @@ export async function unpacked(bytes) {
   }
   if (at !== begin) loose ||= names.at(-1);
   const comment = new TextDecoder("latin1").decode(bytes.subarray(end + END));
-  return { files: new Map(NAMES.map((name) => [name, files.get(name)])), comment, sealedBytes: end + END, loose };
+  return { files: new Map(wanted.map((name) => [name, files.get(name)])), comment, sealedBytes: end + END, loose };
 }
 
 // The end of the directory: the last place whose comment reaches to the end of the file.
@@ -107,7 +111,7 @@ function renamesNothing(extra) {
 }
 
 async function content(packed, entry) {
-  const most = FILES[entry.name];
+  const most = MOST[entry.name];
   if (entry.size > most) throw new ZipFault("zip_large", { name: entry.name, most });
   let found;
   if (entry.method === STORED) found = packed.slice();

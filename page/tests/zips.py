@@ -16,7 +16,16 @@ from opened import HERE, WORDS, Page
 
 def bundles(page: Page, work: Path) -> None:
     """Bundles that hold together, and that don't."""
-    from plantbal.audit.bundle import DIGESTS, MANIFEST, OUTPUT, SESSION, digests_text, packed
+    from plantbal.audit.bundle import (
+        DIGESTS,
+        MANIFEST,
+        MEASURED,
+        OUTPUT,
+        SESSION,
+        SUMMED,
+        digests_text,
+        packed,
+    )
 
     sample = bundle_of_page(page)
     with zipfile.ZipFile(BytesIO(sample)) as found:
@@ -45,8 +54,24 @@ def bundles(page: Page, work: Path) -> None:
                 zip_.writestr(name, kept[name])
         return out.getvalue()
 
+    def of_a_book(**changed: bytes) -> bytes:
+        """Return the bundle with rows of a book's files, of which some are changed afterwards."""
+        files = {**kept, MEASURED: b"a\n", SUMMED: b"b\n"}
+        manifest = json.loads(kept[MANIFEST])
+        for name in (MEASURED, SUMMED):
+            manifest["files"][name] = hashlib.sha256(files[name]).hexdigest()
+        files[MANIFEST] = (json.dumps(manifest, indent=2) + "\n").encode("utf-8")
+        files[DIGESTS] = digests_text(files)
+        return packed({**files, **{f"{name}.csv": data for name, data in changed.items()}})
+
     names = list(kept)
     table = {
+        "with the files of a book": (of_a_book(), "bundle_right", []),
+        "with a changed file of a book": (
+            of_a_book(summed=b"c\n"),
+            "bundle_wrong",
+            ["b_file_wrong", "b_manifest_wrong"],
+        ),
         "as it was archived": (sample, "bundle_right", []),
         "a value of the session changed, digests made anew": (
             forged(SESSION, b"9931400000", b"9931400001"),

@@ -243,7 +243,7 @@ CHANGES = [
         b"T07:00:00Z",
         "manifest.json: line 7, character 24: found 7, archived 6",
     ),
-    (MANIFEST, b'"archive": 6', b'"archive": 8', "it says that it is of version 8"),
+    (MANIFEST, b'"archive": 6', b'"archive": 9', "it says that it is of version 9"),
     (MANIFEST, b'"archive": 6', b'"archive": 1', "its item 'program' has the wrong form"),
     (MANIFEST, b'"archive": 6', b'"archive": 2', "its items aren't those of its version"),
     (MANIFEST, b"--gap 10", b"--gap 11", "writes 'report,2024-04,0,"),

@@ -4,6 +4,7 @@ from __future__ import annotations
 
 import datetime
 import re
+from dataclasses import replace
 from pathlib import Path
 from typing import Any
 
@@ -13,6 +14,21 @@ from conftest import Desk, text_of
 from test_shapes import Book, Rows, adds_up, saved
 
 from plantbal import convert, limits
+from plantbal.audit.archive import bundle_files
+from plantbal.audit.bundle import (
+    MANIFEST,
+    OUTPUT,
+    SESSION,
+    SUMMARY,
+    SUMMED,
+    VERSION,
+    WITH_SUMMED,
+    Manifest,
+    packed,
+    unpacked,
+)
+from plantbal.audit.said import SentenceKind
+from plantbal.audit.sums import summed_held
 from plantbal.faults import InputFault
 from plantbal.model.facts import Fact
 from plantbal.page.summed import summed_of_book
@@ -344,3 +360,75 @@ def test_a_statement_shows_them(
         (tmp_path / "summed.csv").write_text(text, encoding="utf-8")
         with pytest.raises(InputFault, match="this isn't a file of how readings were added up"):
             summed_of_book(str(tmp_path), [fact])
+
+
+# ---- in a bundle
+
+
+def archived(say: Desk, room: Path, program: Path, sheets: Book) -> tuple[Path, Path]:
+    """A book of a workbook, and the bundle of its month."""
+    book, bundle, session = room / "mill", room / "may.zip", room / "2024.csv"
+    plant = named(room, {"streams": sheets.pop("streams")}, "plant")
+    assert say("book", "new", "2024", plant, "--book", book).status == 0
+    assert say("book", "add", named(room, sheets, "may"), "--book", book).status == 0
+    text = text_of(book / "2024.csv") + "report,2024-05\n"
+    session.write_text(text, encoding="utf-8")
+    words = ("archive", session, "--out", bundle, "--book", book, "--program", program)
+    assert say(*words).status in (0, 1)
+    return book, bundle
+
+
+def test_a_bundle_has_of_which_hours(say: Desk, tmp_path: Path, program: Path) -> None:
+    """It is audited without the book; a changed row, also one with all digests made anew, is told."""
+    book, bundle = archived(say, tmp_path, program, pipe([*HEAD, *hours(MAY_1, 48)]))
+    found = unpacked(bundle)
+    assert found.files[SUMMED] == (book / "summed.csv").read_bytes()
+    manifest = Manifest.read(found.files[MANIFEST])
+    assert (manifest.archive, sorted(manifest.files)) == (
+        WITH_SUMMED,
+        sorted([OUTPUT, SESSION, SUMMED, SUMMARY]),
+    )
+    kinds = [kind for kind, _ in summed_held("a.zip", found.files)]
+    assert kinds == [SentenceKind.GOOD]
+    assert say("audit", bundle).status == 0
+    for old, new in ((b",300,", b",301,"), (b",24,24,", b",23,24,"), (b"F-1_2024-05-02", b"F-2")):
+        changed = {**found.files, SUMMED: found.files[SUMMED].replace(old, new, 1)}
+        assert changed != found.files
+        bundle.write_bytes(packed(changed))
+        said = say("audit", bundle)
+        assert said.status == 1 and f"{SUMMED}: " in said.out
+        again = bundle_files(changed[SESSION], changed[OUTPUT], manifest, {SUMMED: changed[SUMMED]})
+        assert [kind for kind, _ in summed_held("a.zip", again)] == [SentenceKind.WRONG]
+        bundle.write_bytes(packed(again))
+        assert say("audit", bundle).status == 1
+    older = bundle_files(found.files[SESSION], found.files[OUTPUT], replace(manifest, archive=6))
+    bundle.write_bytes(packed(older))
+    assert say("audit", bundle).status == 0, "a bundle of an earlier form has none"
+    carried = {SUMMED: found.files[SUMMED]}
+    mixed = replace(manifest, archive=7)
+    bundle.write_bytes(packed(bundle_files(older[SESSION], older[OUTPUT], mixed, carried)))
+    assert say("audit", bundle).status == 1, "and one of an earlier form with it was put together"
+
+
+def test_a_bundle_without_hours_is_as_it_was(say: Desk, tmp_path: Path, program: Path) -> None:
+    sheets = pipe([["day", "F-1"], [MAY_1, 300], [MAY_1 + DAY, 876]])
+    _, bundle = archived(say, tmp_path, program, sheets)
+    found = unpacked(bundle)
+    assert SUMMED not in found.files and Manifest.read(found.files[MANIFEST]).archive == VERSION
+
+
+def test_a_fact_is_explained(say: Desk, tmp_path: Path, program: Path) -> None:
+    rows = [r for r in hours(MAY_1, 24) if r[0].hour != 4]
+    sheets = pipe([*HEAD, *rows], ["missing hours", 0, None])
+    book, _ = archived(say, tmp_path, program, sheets)
+    words = "explain", tmp_path / "2024.csv", "--fact", "F-1_2024-05-01"
+    first = (
+        f"{tmp_path / '2024.csv'}: line 6: reading F-1_2024-05-01 of FEED, 2024-05-01: 295.000 t"
+    )
+    alone, both = say(*words), say(*words, "--book", book)
+    assert alone.status == both.status == 0 and alone.out.startswith(first)
+    assert both.out.startswith(alone.out)
+    made = "295 t, from may.xlsx!readings: B3:B25 (23 of 24 hours; taken for 0: 04:00)"
+    assert both.out.splitlines()[1] == f"{book}: {made}"
+    assert say("explain", tmp_path / "2024.csv", "--fact", "F-2").status == 1
+    assert say("explain", tmp_path / "2024.csv", "--book", book).status == 2

@@ -26,9 +26,7 @@ from plantbal.workbook.summed import read_summed
 
 Sheets = dict[str, Rows]
 MAY = [datetime.datetime(2024, 5, day) for day in (1, 2)]
-EVE, MARCH_31, OCTOBER_27 = (
-    datetime.datetime(2024, *day) for day in ((3, 30), (3, 31), (10, 27))
-)
+EVE, MARCH_31, OCTOBER_27 = (datetime.datetime(2024, *day) for day in ((3, 30), (3, 31), (10, 27)))
 BERLIN: Rows = [["zone", "Europe/Berlin", None]]
 TAGGED = ["Datum", "Messstelle"]
 TONNE = 10**6
@@ -108,7 +106,10 @@ HEADS: dict[str, tuple[list[Any], str]] = {
     "0:00 - 1:00": ([f"{hour}:00 - {(hour + 1) % 24}:00" for hour in range(24)], BEGIN),
     "1 h": ([f"{hour} h" for hour in range(1, 25)], END),
     "H01": ([f"H{hour:02}" for hour in range(1, 25)], END),
-    "7 Uhr bis 6 Uhr, by their ends": ([f"{hour} Uhr" for hour in [*range(7, 25), *range(1, 7)]], END),
+    "7 Uhr bis 6 Uhr, by their ends": (
+        [f"{hour} Uhr" for hour in [*range(7, 25), *range(1, 7)]],
+        END,
+    ),
     "06-07 from six": ([f"{h:02}-{(h + 1) % 24:02}" for h in [*range(6, 24), *range(6)]], BEGIN),
 }
 
@@ -132,7 +133,9 @@ def test_heads_that_are_hours(case: str, tmp_path: Path) -> None:
     [[*range(6, 24), *range(6)], clock(range(6, 22)), [*range(25)]],
     ids=["6 to 5", "06:00 to 21:00", "0 to 24"],
 )
-def test_heads_that_can_be_read_in_two_ways_are_asked_about(heads: list[Any], tmp_path: Path) -> None:
+def test_heads_that_can_be_read_in_two_ways_are_asked_about(
+    heads: list[Any], tmp_path: Path
+) -> None:
     found = proposed(tmp_path, plant(across(heads)))
     (own,) = [each for each in found.mapping.sheets if each.kind == "readings"]
     assert own.hours == OPEN and len(found.open()) == 1

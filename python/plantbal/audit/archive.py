@@ -7,27 +7,27 @@ import datetime
 import os
 import re
 import sys
+from collections.abc import Mapping
 from dataclasses import replace
 from pathlib import Path
 
 from plantbal.audit.believed import require_believed
 from plantbal.audit.bundle import (
     MANIFEST,
-    MEASURED,
     MOST_BYTES,
     OUTPUT,
     SESSION,
     SUMMARY,
     VERSION,
-    WITH_MEASURED,
     DIGESTS,
     Manifest,
     digests_text,
     packed,
+    bundle_form,
 )
 from plantbal.audit.changed import digest, digests_of_parts
 from plantbal.audit.linked import named_approvals, named_book, named_bundle
-from plantbal.audit.reckoned import measured_of
+from plantbal.audit.carried import carried_files
 from plantbal.audit.signed import add_signing, sign_bundle
 from plantbal.audit.summary import summary_text
 from plantbal.build import build_of
@@ -55,6 +55,8 @@ SESSION is a file; `-` is standard input. The program is run, and the bundle is 
   SHA256SUMS     the digests of all these, for `sha256sum --check`
   measured.csv   with --book, if masses of the session were calculated by temperatures, water,
                  roofs or densities of days: what was measured and applied, a row for each
+  summed.csv     with --book, if readings of the session are sums of hours, or what a counter
+                 advanced: of which cells and hours, a row for each
 
 The zip ends with a comment that has the digest of all bytes before it.
 
@@ -145,13 +147,21 @@ def period_of(output: Output, wanted: str | None) -> str:
 
 
 def bundle_files(
-    session: bytes, output: bytes, stated: Manifest, measured: bytes | None = None
+    session: bytes, output: bytes, stated: Manifest, carried: Mapping[str, bytes] | None = None
 ) -> dict[str, bytes]:
-    """Return the files of a bundle; plant, period, time, words, program and desk are stated."""
+    """Return the files of a bundle; plant, period, time, words, program and desk are stated.
+
+    Parameters
+    ----------
+    session, output : bytes
+        The session, and the program's output for it.
+    stated : Manifest
+        What is stated.
+    carried : mapping of str to bytes, optional
+        The rows of files of its book that are of the session.
+    """
     ledger, report = Ledger(SESSION, session), parse_report(output.decode("utf-8"), OUTPUT)
-    files = {SESSION: session, OUTPUT: output}
-    if measured is not None:
-        files[MEASURED] = measured
+    files = {SESSION: session, OUTPUT: output, **(carried or {})}
     first = manifest_of(stated, ledger, report, files)
     files[SUMMARY] = summary_text(first, ledger, report).encode("utf-8")
     files[MANIFEST] = manifest_of(stated, ledger, report, files).to_json()
@@ -271,10 +281,9 @@ def run(options: argparse.Namespace) -> int:
         before=named_bundle(options.before),
         approvals=named_approvals(options.book, period),
     )
-    measured = measured_of(options.book, session)
-    if measured is not None:
-        stated = replace(stated, archive=WITH_MEASURED)
-    files = _fits(bundle_files(session, written, stated, measured))
+    carried = carried_files(options.book, session)
+    stated = replace(stated, archive=bundle_form(carried))
+    files = _fits(bundle_files(session, written, stated, carried))
     path = options.out or f"{re.sub('[^A-Za-z0-9_.-]', '_', plant)}_{period}.zip"
     state = "" if _write(path, packed(files)) else ", as it was before"
     for made_too in sign_bundle(path, options.key, options.stamps):

@@ -22,16 +22,20 @@ MANIFEST, DIGESTS = "manifest.json", "SHA256SUMS"
 NAMES = (SESSION, OUTPUT, SUMMARY, MANIFEST, DIGESTS)
 # How the masses of the session were calculated, in a bundle of a book that has such.
 MEASURED = "measured.csv"
+# Of which hours readings of the session were made, in a bundle of a book that has such.
+SUMMED = "summed.csv"
+CARRIED = (MEASURED, SUMMED)
 VERSION = 6
 # What a manifest has of the program, by the version of its form.
 _BUILD = ("sha256", "version", "commit")
 _FROM = (*_BUILD, "from")
-_PROGRAM: dict[int, tuple[str, ...]] = {1: _BUILD, **dict.fromkeys((2, 3, 4, 5, 6, 7), _FROM)}
+_PROGRAM: dict[int, tuple[str, ...]] = {1: _BUILD, **dict.fromkeys(range(2, 9), _FROM)}
 _SEALED = 3  # from this version on a manifest has the digests of parts, and a zip one of its own
 _CHAINED = 4  # from this version on a manifest names the head of a book, and the bundle before it
 _JUDGING = 5  # from this version on a summary has the ± of each flow
 APPROVED = 6  # from this version on a manifest has the approvals of the month
 WITH_MEASURED = 7  # the version of a bundle that has how masses were calculated
+WITH_SUMMED = 8  # the version of a bundle that has of which hours readings were made
 # What it has of these two, if anything.
 _HEAD = ("number", "head")
 _LINKS = {"book": _HEAD, "before": ("sha256", *_HEAD)}
@@ -42,6 +46,7 @@ MOST_BYTES = {
     SESSION: SESSION_BYTES,
     OUTPUT: 1 << 28,
     MEASURED: 1 << 28,
+    SUMMED: SESSION_BYTES,
     SUMMARY: 1 << 26,
     MANIFEST: 1 << 26,
     DIGESTS: 1 << 16,
@@ -217,8 +222,15 @@ def _has_texts(item: Any, nested: bool) -> bool:
 
 
 def members_of(names: Iterable[str]) -> tuple[str, ...]:
-    """Return the files that a bundle has, in their order, by whether how masses were calculated is."""
-    return (*NAMES[:2], MEASURED, *NAMES[2:]) if MEASURED in names else NAMES
+    """Return the files that a bundle has, in their order, by which of a book's files are among them."""
+    there = {*names}
+    return (*NAMES[:2], *(name for name in CARRIED if name in there), *NAMES[2:])
+
+
+def bundle_form(carried: Iterable[str]) -> int:
+    """Return the form of a bundle that has some files of a book."""
+    there = {*carried}
+    return WITH_SUMMED if SUMMED in there else WITH_MEASURED if MEASURED in there else VERSION
 
 
 def digests_text(files: Mapping[str, bytes]) -> bytes:
@@ -312,7 +324,7 @@ def unpacked(path: str | Path) -> Unpacked:
                 raise InputFault(
                     f"this zip has {', '.join(names) or 'no file'}",
                     place=Place(file=source),
-                    remedy=f"a bundle has {', '.join(NAMES)}, and maybe {MEASURED}",
+                    remedy=f"a bundle has {', '.join(NAMES)}, and maybe {' and '.join(CARRIED)}",
                 )
             comment = bundle.comment
             wrong = _comment_faults(comment, data)

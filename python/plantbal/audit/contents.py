@@ -10,7 +10,6 @@ from plantbal.audit.archive import bundle_files
 from plantbal.audit.bundle import (
     DIGESTS,
     MANIFEST,
-    MEASURED,
     OUTPUT,
     SESSION,
     SUMMARY,
@@ -19,10 +18,11 @@ from plantbal.audit.bundle import (
     digests_text,
     members_of,
     unpacked,
+    bundle_form,
 )
+from plantbal.audit.carried import carried_held, carried_in
 from plantbal.audit.changed import digest, where
 from plantbal.audit.linked import Linked
-from plantbal.audit.reckoned import reckoned
 from plantbal.audit.runwords import words_read, words_shown
 from plantbal.audit.signed import ANYBODY, Beside
 from plantbal.audit.said import SHORT, Audit, Audited, SentenceKind, differs_at
@@ -52,6 +52,10 @@ def given_of_bundle(audit: Audit, path: str, options: argparse.Namespace) -> Aud
         _say_packed(audit, path, found, False, False)
         report = parse_report(files[OUTPUT].decode("utf-8", "replace"), f"{path}!{OUTPUT}")
         return _given(path, files, words_shown(report))
+    least = bundle_form(carried_in(files))
+    if carried_in(files) and manifest.archive < least:
+        what = f"it says form {manifest.archive}, and a bundle with these files is of form {least}"
+        audit.add(SentenceKind.WRONG, f"{path}!{MANIFEST}: {what}")
     other = _made_again(audit, path, files, manifest, changed)
     same = _manifest_digest(audit, path, files, bool(other), there) and not other and not changed
     holds = same and files[DIGESTS] == digests_text(files)
@@ -64,7 +68,7 @@ def given_of_bundle(audit: Audit, path: str, options: argparse.Namespace) -> Aud
         what = f"the digests of its {len(files) - 1} files hold"
         rest = "manifest and summary are those of the session and the output"
         audit.add(SentenceKind.GOOD, f"{path}: {what}, and {rest}")
-    for kind, said in reckoned(path, files):
+    for kind, said in carried_held(path, files):
         audit.add(kind, said)
     for kind, said in Linked(path, manifest, files[SESSION]).held(options.book, options.before):
         audit.add(kind, said)
@@ -211,7 +215,7 @@ def _made_again(
     If they differ because another file was changed, this was said already.
     """
     try:
-        again = bundle_files(files[SESSION], files[OUTPUT], manifest, files.get(MEASURED))
+        again = bundle_files(files[SESSION], files[OUTPUT], manifest, carried_in(files))
     except KeyError:
         what = f"the session has no period {manifest.period}"
         audit.add(SentenceKind.WRONG, f"{path}!{MANIFEST}: {what}, which is said to be archived")

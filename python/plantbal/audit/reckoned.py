@@ -95,7 +95,7 @@ def rows_of_session(session: bytes) -> list[list[str]]:
     return [line.split(",") for line in session.decode("utf-8", "replace").split("\n")]
 
 
-def _booked(row: Sequence[str]) -> tuple[str, list[str]]:
+def booked_figures(row: Sequence[str]) -> tuple[str, list[str]]:
     """Return the id of the fact of a row, and its figures; nothing of another row."""
     kind, *fields = row[1:] if row[0] == "late" else row
     if kind == "amend":
@@ -108,7 +108,7 @@ def _fits(trail: Trail, rows: Sequence[Sequence[str]]) -> bool:
     """Say whether a row of a session is that of a trail."""
     if not 0 < trail.row <= len(rows):
         return False
-    return _booked(rows[trail.row - 1])[0] == trail.fact
+    return booked_figures(rows[trail.row - 1])[0] == trail.fact
 
 
 def differs(trail: Trail, rows: Sequence[Sequence[str]]) -> str:
@@ -123,7 +123,7 @@ def differs(trail: Trail, rows: Sequence[Sequence[str]]) -> str:
         return f"{said}: its figures give {again:.3f} g, and {grams:.3f} g were found"
     if not _fits(trail, rows):
         return f"{said}: the session doesn't have this fact there"
-    figures = _booked(rows[trail.row - 1])[1]
+    figures = booked_figures(rows[trail.row - 1])[1]
     if figures[-1] != variance:
         return f"{said}: the session has the variance {figures[-1]}, and {variance} was found"
     if len(figures) == 2 and (int(figures[0]) != booked or abs(booked - again) > 1):

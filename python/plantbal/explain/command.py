@@ -11,7 +11,7 @@ from itertools import zip_longest
 
 from plantbal.explain.sessions import explain_bytes
 from plantbal.explain.told import Explanation
-from plantbal.faults import InputFault, Place, read_bytes
+from plantbal.faults import InputFault, Place, read_bytes, WordsFault
 from plantbal.files import write_text
 from plantbal.plain import plain
 from plantbal.records import read_records, without_empty_end
@@ -34,10 +34,14 @@ If the first file is a report, the second is what a check said about it; without
 the check itself. Each `no` and each `unreadable` is shown with its row, and with what the test asks
 for.
 
+With --fact the line of one fact is shown, with what is booked; and with --book too of which cells and
+hours the figure was made, if it is a sum of hours or what a counter advanced.
+
 The status is 1 if there was anything to explain, and 0 otherwise.
 
 examples:
   plantbal-desk explain day.csv
+  plantbal-desk explain april.csv --fact FI-302_2024-04-16 --book mill
   plantbal check < report.csv | plantbal-desk explain report.csv -
 """
 
@@ -94,12 +98,22 @@ def add_arguments(parser: argparse.ArgumentParser) -> None:
     parser.add_argument(
         "output", metavar="OUTPUT", nargs="?", help="its output, or what a check said of the report"
     )
+    parser.add_argument("--fact", metavar="ID", help="the fact to explain, by its id")
+    parser.add_argument("--book", metavar="FOLDER", help="the book that the session is from")
     parser.add_argument("--program", metavar="PATH", help="the program, which checks a report")
 
 
 def run(options: argparse.Namespace) -> int:
     """Write the explanation."""
+    if options.book is not None and options.fact is None:
+        raise WordsFault("--book is for a fact", remedy="name the fact with --fact ID")
     source, data = read_bytes(options.session)
+    if options.fact is not None:
+        from plantbal.explain.facts import fact_lines
+
+        said_lines = fact_lines(source, data, options.fact, options.book)
+        write_text("-", plain("\n".join(said_lines) + "\n"))
+        return ExitStatus.GOOD
     if is_report(data):
         from plantbal.audit.verdicts import explain_check
 

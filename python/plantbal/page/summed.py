@@ -8,17 +8,13 @@ from __future__ import annotations
 
 from collections.abc import Iterable, Iterator, Mapping, Sequence
 from dataclasses import dataclass
-from fractions import Fraction
 from math import sqrt
-from pathlib import Path
 
 from plantbal import limits
 from plantbal.amounts import tonnes_text
-from plantbal.book.forms import SUMMED
-from plantbal.faults import InputFault, Place, decoded, read_bytes
+from plantbal.audit.sums import sums_of_book
 from plantbal.model.facts import Fact
-from plantbal.workbook.summed import HEADS, SummedBy, SummedFact, read_summed
-from plantbal.workbook.units import GRAMS
+from plantbal.workbook.summed import HEADS, SummedBy, SummedFact
 
 SHEET = ("period", *HEADS)
 
@@ -55,6 +51,8 @@ class SummedReading:
         if found.by == SummedBy.COUNTER.value:
             return f"a counter, {found.count} figures in {found.hours} hours"
         said = f"{found.count} of {found.hours} hours"
+        if found.by == SummedBy.HOURS_ONE_TWICE.value:
+            said = f"{found.count} figures of {found.hours} hours, one of them of two hours"
         missing = found.missing.split()
         return f"{said}; taken for 0: {', '.join(missing)}" if missing else said
 
@@ -66,15 +64,7 @@ class SummedReading:
     @property
     def wrong(self) -> str:
         """In what it contradicts itself or the session; empty if in nothing."""
-        found = self.found
-        is_sum = found.by == SummedBy.HOURS.value
-        if is_sum and found.count + len(found.missing.split()) != found.hours:
-            return f"{found.count} figures aren't those of {found.hours} hours"
-        if found.unit in GRAMS:
-            grams = round(Fraction(found.figure) * GRAMS[found.unit])
-            if grams != self.fact.grams:
-                return f"the session has {self.fact.grams:,} g, and this is {grams:,} g"
-        return ""
+        return self.found.wrong(self.fact.grams)
 
     @property
     def booked(self) -> str:
@@ -118,16 +108,7 @@ def summed_of_book(book: str | None, facts: Iterable[Fact]) -> list[SummedReadin
     InputFault
         If the book's file can't be read.
     """
-    path = Path(book or "") / SUMMED
-    if book is None or not path.exists():
-        return []
-    source, data = read_bytes(path, limits.SESSION_BYTES)
-    try:
-        kept = {(each.row, each.fact): each for each in read_summed(decoded(source, data))}
-    except ValueError as error:
-        what = "this isn't a file of how readings were added up"
-        remedy = "take it as plantbal wrote it, or from a backup"
-        raise InputFault(what, place=Place(file=source), remedy=remedy) from error
+    kept = {(each.row, each.fact): each for each in sums_of_book(book)}
     return [
         SummedReading(fact, kept[fact.line, fact.id])
         for fact in facts

@@ -87,7 +87,9 @@ class AcrossDays:
         except ValueError as error:
             place = sheet.place(across.line, int(error.args[0]) + 1)
             remedy = "correct the head, or hours in the mapping: begin, end or count"
-            raise CausedFault(SheetCause.HEAD_NOT_NEXT_HOUR(), place=place, remedy=remedy) from error
+            raise CausedFault(
+                SheetCause.HEAD_NOT_NEXT_HOUR(), place=place, remedy=remedy
+            ) from error
         self._seconds = {begin for _, begin, head in self.hours if head.is_again}
 
     def days(self, name: str, stream: str, rows: Sequence[AcrossRow]) -> SeriesDays:

@@ -404,7 +404,8 @@ def _sum_day(
         total += sum((each.weight * reader.number(each.cell, name) for each in again), Decimal(0))
     zeros = tuple(f"{clock.local(at):%H:%M}" for at in lacks)
     cells = cells_text([each.cell for each in own])
-    of = DayCells(SummedBy.HOURS, cells, len(own), len(wanted), zeros)
+    by = SummedBy.HOURS_ONE_TWICE if again else SummedBy.HOURS
+    of = DayCells(by, cells, len(own), len(wanted), zeros)
     cell = SummedCell(first.cell.sheet, first.cell.line, first.cell.column, total, of)
     days.found.append(DayFigure(day, first.stamp, cell, len(wanted)))
 

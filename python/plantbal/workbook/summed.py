@@ -12,15 +12,18 @@ import enum
 import io
 from collections.abc import Iterable, Sequence
 from dataclasses import dataclass, fields, replace
+from fractions import Fraction
 from pathlib import Path
 
 from plantbal.workbook.sheets import Cell, letters
+from plantbal.workbook.units import GRAMS
 
 
 class SummedBy(enum.Enum):
     """What a day's figure is of."""
 
     HOURS = "hours"  # their sum
+    HOURS_ONE_TWICE = "hours, one twice"  # their sum, and one figure is of an hour that comes twice
     COUNTER = "counter"  # its figure at the day's end less that at its beginning
 
 
@@ -75,7 +78,7 @@ class SummedFact:
     fact : str
         Its id.
     by : str
-        What its figure is of: ``hours`` or ``counter``.
+        What its figure is of: ``hours``, ``hours, one twice`` or ``counter``.
     figure, unit : str
         The figure, and its unit.
     cells : str
@@ -103,6 +106,19 @@ class SummedFact:
     def texts(self) -> tuple[str, ...]:
         """Return it as a row of the file."""
         return tuple(str(getattr(self, head)) for head in HEADS)
+
+    def wrong(self, grams: int) -> str:
+        """Return in what it contradicts itself or what is booked; empty if in nothing."""
+        there = self.count + len(self.missing.split())
+        if self.by == SummedBy.HOURS_ONE_TWICE.value:
+            there += 1
+        if self.by != SummedBy.COUNTER.value and there != self.hours:
+            return f"{self.count} figures aren't those of {self.hours} hours"
+        if self.unit in GRAMS:
+            found = round(Fraction(self.figure) * GRAMS[self.unit])
+            if found != grams:
+                return f"the session has {grams:,} g, and this is {found:,} g"
+        return ""
 
 
 HEADS = tuple(field.name for field in fields(SummedFact))
