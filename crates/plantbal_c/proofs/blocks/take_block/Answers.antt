@@ -56,5 +56,5 @@ returns-clause-whole c =
 pub returns-in-Err-TooMany-clause-fewer : goal.returns-in-Err-TooMany-clause-fewer
 returns-in-Err-TooMany-clause-fewer c =
     let left : c.turns.count < length c.args.records.now.left =
-        one_left c.args.records.now.left c.turns.count (λ none. c.in-Err-TooMany.ensures.left c.in-Err-TooMany.field-0-is (sym c.turns.invariant.left ∙ none)) in
+    one_left c.args.records.now.left c.turns.count (λ none. c.in-Err-TooMany.ensures.left c.in-Err-TooMany.field-0-is (sym c.turns.invariant.left ∙ none)) in
     λ _. omega (arith, left, c.turns-test.true, c.turns.auto.codes)

@@ -11,4 +11,4 @@ returns-in-Some-clause-there c =
     let held : c.in-Some.held.value ≡ c.args.session.now.value = rw c.replace.ensures.value at c.in-Some.ensures.1 in
     let rows : c.book.result.now ≡ c.args.session.now.value.state.rows = c.book.ensures ∙ ap (λ (o : Opened). o.state.rows) (c.deref.ensures ∙ held) in
     λ _ lt. done_at c.stream_at-shown.result c.write.result c.write.new.place (length (arcs_of (declared_of c.book.result.now))) c.args.place _ c.stream_at-shown.ensures c.write.ensures.found
-        (subst (λ r. c.args.place < length (arcs_of (declared_of r))) (sym rows) lt)
+    (subst (λ r. c.args.place < length (arcs_of (declared_of r))) (sym rows) lt)
