@@ -103,7 +103,7 @@ def petroleum(
     """
     check_temperature(group, density, temperature)
     with localcontext(CONTEXT):
-        exact = _factor(_expansion(group, density, coefficient), temperature - STANDARD)
+        exact = exact_factor(group, density, temperature, coefficient)
         value = exact.value
         if rounding is Rounding.PROCEDURE:
             near = to_nearest(density, Decimal("0.5"))
@@ -112,6 +112,19 @@ def petroleum(
             by = to_nearest(temperature, Decimal("0.05")) - STANDARD
             value = five_figures(_factor(rounded, by).value)
         return VolumeFactor(value, exact.by_temperature, exact.by_density, f"54{group.letter}")
+
+
+def exact_factor(
+    group: Group, density: Decimal, temperature: Decimal, coefficient: Decimal | None
+) -> VolumeFactor:
+    """Return the factor by the formula, without rounding, also beyond the ends of the tables.
+
+    Raises
+    ------
+    Fault
+        If table C has no coefficient.
+    """
+    return _factor(_expansion(group, density, coefficient), temperature - STANDARD)
 
 
 def _expansion(group: Group, density: Decimal, coefficient: Decimal | None) -> Expansion:

@@ -1,7 +1,8 @@
 """The density at 15 degrees of a sample whose density was taken at another temperature.
 
 This is what tables 53A to 53D have. The factor needs the density at 15 degrees, which is what is
-looked for, so it is found by steps: the observed density over the factor of the one before. A
+looked for, so it is found by steps: the observed density over the factor of the one before. The
+tables' ends are those of the density that is found: on the way it may be beyond them. A
 glass hydrometer is larger when it is warm, and reads too low by
 
     1 - 0.000023 (t - 15) - 0.00000002 (t - 15)^2
@@ -25,13 +26,14 @@ from plantbal.volumes.factor import (
     STANDARD,
     FactorTable,
     Rounding,
-    petroleum,
+    exact_factor,
     to_nearest,
 )
-from plantbal.volumes.groups import Group
+from plantbal.volumes.groups import Group, check_temperature
 
 _STEPS = 100
 _NEAR = Decimal("1e-12")
+_TENTH = Decimal("0.1")
 # If two ranges of products answer each other, the procedure of 1980 ends within this.
 _NEAR_A_BORDER = Decimal("0.05")
 _GLASS = Decimal("0.000023"), Decimal("0.00000002")
@@ -106,17 +108,18 @@ def at_standard(
         read = observed * (glass(temperature) if instrument is DensityInstrument.HYDROMETER else 1)
         found = read
         for _ in range(_STEPS):
-            factor = petroleum(group, found, temperature, Rounding.NONE, coefficient)
+            factor = exact_factor(group, found, temperature, coefficient)
             before, found = found, read / factor.value
             if abs(found - before) < _NEAR:
                 break
         if abs(found - before) >= _NEAR_A_BORDER:
             what = VolumeCause.NO_STANDARD_DENSITY(density=observed, at=temperature)
             raise CausedFault(what, text=str(observed), remedy="look at both figures")
+        check_temperature(group, to_nearest(found, _TENTH), temperature)
         # found = read / F(found), so its derivative by read is 1 / (F + found F')
         slope = (read / observed) / (factor.value + found * factor.by_density)
         if rounding is Rounding.PROCEDURE:
-            found = to_nearest(found, Decimal("0.1"))
+            found = to_nearest(found, _TENTH)
         return Standard(found, slope, f"53{group.letter}")
 
 
