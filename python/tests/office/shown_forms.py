@@ -16,11 +16,13 @@ from plantbal.lint import lacking
 from plantbal.model import remedies, words
 from plantbal.page.drawing import KINDS
 from plantbal.page.verdict import STOPS
+from plantbal.workbook.mapping.words import LANGUAGES
+from plantbal.workbook.sheetkinds import SHEETS
 from plantbal_office.causes import GridCause, GridRemedy
 
 HOME = Path(__file__).parents[2]
 # What is made of forms, and in which places of its call they are.
-MAKERS = {"Sentence": (0,), "counted": (1, 2)}
+MAKERS = {"Sentence": (0,), "counted": (1, 2), "Phrase": (0,), "phrase": (0,)}
 # Modules of the package all of whose sentences a page of the desk can show.
 WHOLE = (
     *(
@@ -46,6 +48,13 @@ WHOLE = (
     *("workbook/packed", "workbook/periods", "workbook/plant", "workbook/readings"),
     *("workbook/settings", "workbook/shapeparts", "workbook/shapes", "workbook/tables"),
     *("workbook/tickets", "workbook/wide"),
+    *(
+        f"workbook/mapping/{name}"
+        for name in (
+            *("acrosshours", "applying", "columns", "counting", "dating", "finding", "form"),
+            *("kinds", "profile", "proposing", "why", "written"),
+        )
+    ),
 )
 _TEMPLATE = re.compile(r'(?<![\w.])_\("((?:[^"\\]|\\.)*)"')
 _DJANGO = re.compile(r'{% translate (?:"([^"]*)"|\'([^\']*)\')')
@@ -105,6 +114,8 @@ def of_tables() -> Iterator[str]:
     yield from (words.FORM_OF_TEXT, words.FORM_OF_NOTHING, remedies.NAME_FORM)
     yield from (remedies.NAME_LETTERS, remedies.NAME_LONG, remedies.NAME_SUCH)
     yield from (*lacking._MEANS.values(), *STOPS.values())
+    yield from (kind.about for kind in SHEETS.values())
+    yield from LANGUAGES.values()
 
 
 def shown_forms() -> set[str]:

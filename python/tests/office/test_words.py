@@ -11,7 +11,7 @@ from babel.messages.catalog import Catalog
 from babel.messages.mofile import read_mo
 from babel.messages.pofile import read_po
 from office.shown_forms import HOME, fields, shown_forms
-from office.site_of import Site
+from office.site_of import TOP, Site
 
 LOCALE = HOME / "plantbal_office" / "locale"
 
@@ -106,6 +106,27 @@ def test_faults(site: Site) -> None:
     for word in ("3 Fehler, und nichts", "'zwoelf' ist keine Zahl", "'2024-13-01' ist kein Tag"):
         assert word in said, said[:1500]
     assert not ENGLISH.search(said.split("Nichts ist gebucht")[1]), said
+
+
+# What a sheet may have, by the names that the workbook's own columns have for it.
+CHOICES = re.compile(r"<option(?: selected)?>[^<]*</option>")
+
+
+@pytest.mark.parametrize("language", ("de", "es"))
+def test_mapping(site: Site, language: str) -> None:
+    """Each guess, what speaks for it, and each question of a workbook's mapping are in the language."""
+    spoken(site, language)
+    own = sorted((TOP / "examples" / "own_workbook").glob("*.csv"))
+    files = [io.BytesIO(each.read_bytes()) for each in own]
+    for file, each in zip(files, own):
+        file.name = each.name
+    data = {**site.fields("enter/"), "locale": "", "workbook": files, "called": "own"}
+    answer = site.client.post(f"/p/{site.plant.slug}/enter/", data, follow=True)
+    assert "/mapping" in answer.redirect_chain[-1][0]
+    assert answer.content.count(b'class="sheetform"') == len(own)
+    answer.content = CHOICES.sub("", answer.content.decode()).encode()
+    found = ENGLISH.findall(text_of(answer).replace(str(site.book), ""))
+    assert not found, (found, text_of(answer))
 
 
 def test_refusal(site: Site) -> None:

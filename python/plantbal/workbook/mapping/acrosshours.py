@@ -11,7 +11,9 @@ from collections import Counter
 from dataclasses import dataclass, field
 from decimal import Decimal
 
+from plantbal.sentence import Phrase, Sentence, counted
 from plantbal.workbook.hourheads import named_by
+from plantbal.workbook.mapping import why
 from plantbal.workbook.mapping.dating import month_said
 from plantbal.workbook.mapping.form import DAY_OF_MONTH, OPEN, SheetMapping
 from plantbal.workbook.mapping.known import KnownPlant
@@ -24,6 +26,14 @@ from plantbal.workbook.mapping.profile import (
 )
 from plantbal.workbook.mapping.vocabulary import column_meanings, is_counter, is_remark, is_total
 from plantbal.workbook.units import AMOUNTS, is_rate, unit_of
+
+
+# What an hour is named by, if the heads decide it.
+_NAMED = {
+    "begin": "so each is the beginning of its hour",
+    "end": "so each is the end of its hour",
+    "count": "so each is the number of its hour",
+}
 
 
 @dataclass
@@ -88,13 +98,17 @@ class HourColumns:
         """Return what names an hour."""
         heads = [head for _, head in sorted(self.profile.hours.items())]
         named = named_by(heads)
-        ends = f"the heads are hours, from {self._shown(min(self.profile.hours))} to "
-        ends += self._shown(max(self.profile.hours))
-        said = "begin if each is the beginning of its hour, end if it is its end, or count"
+        said: str = Phrase(
+            "begin if each is the beginning of its hour, end if it is its end, or count"
+        )
         if named is not None:
-            words = {"begin": "the beginning", "end": "the end", "count": "the number"}
-            said = f"so each is {words[named.value]} of its hour"
-        self.evidence["hours",] = f"{ends}: {said}"
+            said = Sentence(_NAMED[named.value])
+        self.evidence["hours",] = Sentence(
+            "the heads are hours, from {first} to {last}: {said}",
+            first=self._shown(min(self.profile.hours)),
+            last=self._shown(max(self.profile.hours)),
+            said=said,
+        )
         return OPEN if named is None else named.value
 
     def _shown(self, column: int) -> str:
@@ -116,8 +130,9 @@ class HourColumns:
             meters = {*self.known.tags, *self.known.streams}
             count = len(meters.intersection(names))
             if 2 * count > len(names):
-                are = "is a tag or stream" if count == 1 else "are tags or streams"
-                return self._took("tag", column, f"{count} of its texts {are} of the plant")
+                one = "1 of its texts is a tag or stream of the plant"
+                many = "{count} of its texts are tags or streams of the plant"
+                return self._took("tag", column, counted(count, one, many))
             if not meters and {"tag", "stream"} & {*meanings}:
                 of = "tag" if "tag" in meanings else "stream"
                 return self._took("tag", column, meanings[of].said())
@@ -143,7 +158,9 @@ class HourColumns:
         for text in (self.profile.sheet.name, *self.profile.titles):
             found = self.known.meter(text)
             if found:
-                self.evidence[path] = f"{text[:60]!r} has it, and no column has tags"
+                self.evidence[path] = Sentence(
+                    "{text!r} has it, and no column has tags", text=text[:60]
+                )
                 return found
         self.evidence[path] = "no column has tags: of which tag or stream are the figures?"
         return OPEN
@@ -161,8 +178,11 @@ class HourColumns:
             return ""
         own = [column for column in self.profile.columns if column.at in self.profile.hours]
         numbers = [number for column in own for number in column.decimals]
-        ends = f" for {min(numbers)} to {max(numbers)}" if numbers else ""
-        self.evidence["unit",] = f"no unit is given{ends}: t, kg, m3, t/h .."
+        form = "no unit is given: t, kg, m3, t/h .."
+        ends = {"least": min(numbers), "most": max(numbers)} if numbers else {}
+        if ends:
+            form = "no unit is given for {least} to {most}: t, kg, m3, t/h .."
+        self.evidence["unit",] = Sentence(form, **ends)
         return OPEN
 
     def _down(self, columns: dict[str, str]) -> tuple[str, ...]:
@@ -172,8 +192,8 @@ class HourColumns:
             is_of_row = columns.get(column.key) in ("day", "tag", DAY_OF_MONTH)
             if is_of_row and column.head and column.there and 2 * column.blanks >= column.there:
                 found.append(column.head)
-                said = f"{column.blanks} of {column.blanks + column.there} of its cells are empty"
-                self.evidence["down",] = f"{said}: each takes the value above it"
+                count = column.blanks + column.there
+                self.evidence["down",] = why.often_empty(column.blanks, count)
         return tuple(found)
 
     def _counters(self, columns: dict[str, str], given: dict[str, str]) -> dict[str, str]:
@@ -184,11 +204,7 @@ class HourColumns:
         found: dict[str, str] = {}
         for tag, numbers in self._by_tag(tags, given.get("tag", "")).items():
             if tag and rises(numbers, noisy=not said):
-                why = f"{said[:60]!r} says counter" if said else "its figures only rise"
-                self.evidence["counters", tag] = (
-                    f"{why}: the figure at which it begins again, such as 1000000, "
-                    'or "" if each figure is an amount'
-                )
+                self.evidence["counters", tag] = why.counter_asked(said)
                 found[tag] = OPEN
         return found
 

@@ -7,6 +7,8 @@ from collections.abc import Collection
 from dataclasses import dataclass, field, replace
 from decimal import Decimal
 
+from plantbal.sentence import Sentence
+from plantbal.workbook.mapping import why
 from plantbal.workbook.mapping.counting import maybe_counters
 from plantbal.workbook.mapping.dating import month_said, year_said
 from plantbal.workbook.mapping.form import DAY_OF_MONTH, HOUR, OPEN, SITE, TIME, SheetMapping
@@ -128,16 +130,16 @@ class Columns:
         """Return what a column of a tank has, `level` and the like, and why; `?` if it isn't told."""
         rest = without_name(column.name, tank) if tag_in(column.head, (tank,)) else column.name
         if column.unit in TEMPERATURES:
-            return "temperature", f"its figures are in {column.unit}"
+            return "temperature", why.in_unit(column.unit)
         found = {meaning.of for meaning in column_meanings(rest)} & {*OF_TANKS} if rest else set()
         if len(found) == 1:
-            return found.pop(), f"{rest!r} says so"
+            return found.pop(), Sentence("{rest!r} says so", rest=rest)
         others = [each for each in self.profile.columns if self._tank(each) == tank]
         if column.unit in DENSITIES:
-            return "density", f"its figures are in {column.unit}"
+            return "density", why.in_unit(column.unit)
         if len(others) == 1 and column.unit not in VOLUMES:
             return "level", "it is the only column of the tank"
-        return OPEN, f"{tank} has {len(others)} columns: is it {', '.join(OF_TANKS)}?"
+        return OPEN, why.which_of_tank(tank, len(others), OF_TANKS)
 
     def assigned(self) -> dict[str, str]:
         """Return what the columns are; those that are nothing known aren't there."""
@@ -174,8 +176,8 @@ class Columns:
             fit = [c for c in free if 2 * len(names.intersection(c.names())) > len(c.names())]
             if len(fit) == 1:
                 found[fit[0].key], taken[of] = of, fit[0].key
-                there = f"{len(names.intersection(fit[0].names()))} of its texts"
-                self.evidence["columns", fit[0].key] = f"{there} are {of}s of the plant"
+                count = len(names.intersection(fit[0].names()))
+                self.evidence["columns", fit[0].key] = why.texts_of_plant(count, of)
 
     def _repeat(self, found: dict[str, str]) -> None:
         """Take heads that are there again, all as often, for those of tables side by side."""
@@ -189,9 +191,9 @@ class Columns:
             return
         for column in again:
             found[column.key] = found[first[column.head]]
-            self.evidence[
-                "columns", column.key
-            ] = f"as {first[column.head]}, whose head it has: tables are side by side"
+            self.evidence["columns", column.key] = Sentence(
+                "as {first}, whose head it has: tables are side by side", first=first[column.head]
+            )
 
     def _meanings(self, column: ColumnProfile, exact: bool, wide: bool) -> list[Meaning]:
         """Return what a head may mean here, of what can stand below it."""
@@ -277,9 +279,9 @@ class Columns:
             self._take_unit(column, columns.get(column.key), units, set(columns.values()))
         unit = self._unit(columns, units)
         self._ask_density_error(columns, units, unit)
-        year, why = year_said(self.profile) if self.kind.word == "densities" else ("", "")
+        year, said = year_said(self.profile) if self.kind.word == "densities" else ("", "")
         if year:
-            self.evidence["year",] = why
+            self.evidence["year",] = said
         given = self._given(columns)
         counters = {} if self.kind.columns else self._counters(columns)
         totals = tuple(self.profile.totals)
@@ -317,15 +319,13 @@ class Columns:
                 "degrees" if "temperature" in (head.split()[0], self.kind.word[:-1]) else "kg/m3"
             )
             units = "mm" if head.startswith("water") else units
-            self.evidence[
-                "given", head
-            ] = f"no error is given: a standard deviation, in {units}: {such}"
+            self.evidence["given", head] = why.no_error(units, such)
         return {head: OPEN for head, _ in asked}
 
     def _counters(self, columns: dict[str, str]) -> dict[str, str]:
         """Ask whether figures that only rise are those of a counter, which are subtracted."""
         found = maybe_counters(self.profile, self.known, columns)
-        self.evidence |= {("counters", key): why for key, why in found.items()}
+        self.evidence |= {("counters", key): said for key, said in found.items()}
         return dict.fromkeys(found, OPEN)
 
     def _take_other(self, column: ColumnProfile, columns: dict[str, str]) -> None:
@@ -338,7 +338,7 @@ class Columns:
         if name:
             if name != column.head:
                 columns[column.key] = name
-                self.evidence["columns", column.key] = f"it has {name}"
+                self.evidence["columns", column.key] = Sentence("it has {name}", name=name)
             return
         if self.kind.word == "densities" and month_of_head(column.head):
             return
@@ -355,8 +355,7 @@ class Columns:
             open_ = bool(self.known.names) or bool(self.kind.columns)
             if open_:
                 columns[column.key] = OPEN
-                what = "a tag of the plant" if wide else f"one of {', '.join(self.heads)}"
-                self.evidence[path] = f'it has figures: {what}, or "" if it isn\'t to be read'
+                self.evidence[path] = why.which_column(() if wide else self.heads)
 
     def _take_beside(self, column: ColumnProfile, columns: dict[str, str]) -> bool:
         """Take a column of a sheet of readings that has what a tank holds, or the days of these."""
@@ -368,7 +367,7 @@ class Columns:
             if not is_level and (of in ("level", OPEN) or column.unit in LENGTHS):
                 return False
             columns[column.key] = f"{tank} {of}"
-            self.evidence[path] = f"{tank} is in its head or over it; {said}"
+            self.evidence[path] = why.of_tank(tank, said)
             return True
         after = self.profile.columns[self.profile.columns.index(column) + 1 :][:1]
         if not column.has_days or not any(map(own._tank, after)):
@@ -382,7 +381,7 @@ class Columns:
         to = OPEN if of == OPEN else tank if of == "level" else f"{tank} {of}"
         if to != column.head:
             columns[column.key] = to
-            self.evidence["columns", column.key] = f"{tank} is in its head or over it; {said}"
+            self.evidence["columns", column.key] = why.of_tank(tank, said)
 
     # ---- units
 
@@ -427,8 +426,7 @@ class Columns:
         for key, to in columns.items() if self.kind.word == "densities" else ():
             if to == "error" and key not in units and own - {"kg/m3"}:
                 units[key] = OPEN
-                why = f"the densities are in {', '.join(sorted(own))}: kg/m3, or the same"
-                self.evidence["units", key] = f"no unit is given, and {why}"
+                self.evidence["units", key] = why.unit_of_density(sorted(own))
 
     def _is_wide(self, column: ColumnProfile) -> bool:
         """Say whether a column has the figures of a tag, a tank, a name or a month."""
@@ -445,17 +443,16 @@ class Columns:
         least, most = (min(numbers), max(numbers)) if numbers else (Decimal(0), Decimal(0))
         if to == "density" and numbers:
             if least >= 100 and most <= 3_000:
-                return "kg/m3", f"from {least} to {most}, as densities in kg/m3 are"
+                return "kg/m3", why.as_densities(least, most, "kg/m3")
             if least > Decimal("0.3") and most < 3:
-                return "t/m3", f"from {least} to {most}, as densities in t/m3 are"
+                return "t/m3", why.as_densities(least, most, "t/m3")
         if to == "level" and numbers and all(n == int(n) for n in numbers) and most > _MOST_MM:
-            return "mm", f"whole numbers up to {most:,}: in cm that would be {most / 100:,} m"
+            return "mm", why.as_millimetres(most)
         if to == "amount" and self.has_units and "stream" in self.heads:
             return None, ""
         if any(each == 0 for each in numbers) and to == "error" and most == 0:
             return None, ""
-        such = ", ".join(list(_UNITS_OF[to])[:6])
-        return OPEN, f"no unit is given for {least} to {most}: {such}"
+        return OPEN, why.no_unit(least, most, list(_UNITS_OF[to])[:6])
 
     def _unit_of_titles(self, to: str) -> str:
         found = {split_unit(title)[1] for title in self.profile.titles} - {""}
@@ -479,7 +476,7 @@ class Columns:
         merged = ColumnProfile(0, "", values=[v for each in lacks for v in each.values], numbers=1)
         guess, said = self._guess_unit(merged, to)
         if guess:
-            self.evidence["unit",] = f"{said} ({len(lacks)} columns)"
+            self.evidence["unit",] = why.of_columns(said, len(lacks))
         return guess or ""
 
     def _down(self, columns: dict[str, str]) -> tuple[str, ...]:
@@ -495,6 +492,6 @@ class Columns:
                 and column.has_days | column.has_texts
             ):
                 found.append(column.head)
-                said = f"{column.blanks} of {column.blanks + column.there} of its cells are empty"
-                self.evidence["down",] = f"{said}: each takes the value above it"
+                count = column.blanks + column.there
+                self.evidence["down",] = why.often_empty(column.blanks, count)
         return tuple(found)

@@ -8,22 +8,19 @@ from plantbal.workbook.mapping.form import OPEN
 from plantbal.workbook.mapping.known import KnownPlant
 from plantbal.workbook.mapping.profile import SheetProfile, rises
 from plantbal.workbook.mapping.vocabulary import is_counter
+from plantbal.workbook.mapping.why import counter_asked
 
 
 def maybe_counters(
     profile: SheetProfile, known: KnownPlant, columns: Mapping[str, str]
 ) -> dict[str, str]:
     """Return the columns whose figures only rise, as those of a counter, and what speaks for it."""
-    found = {}
+    found: dict[str, str] = {}
     texts = [profile.sheet.name, *profile.titles]
     for column in profile.columns:
         if not known.meter(column.head) or columns.get(column.key) in ("", OPEN):
             continue
         said = next((text for text in [column.head, *texts] if is_counter(text)), "")
         if rises(column.decimals, noisy=not said):
-            why = f"{said[:60]!r} says counter" if said else "its figures only rise"
-            found[column.key] = (
-                f"{why}: the figure at which it begins again, such as 1000000, "
-                'or "" if each figure is an amount'
-            )
+            found[column.key] = counter_asked(said)
     return found

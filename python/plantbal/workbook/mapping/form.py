@@ -17,6 +17,7 @@ from typing import Any
 
 from plantbal import limits
 from plantbal.faults import Fault, InputFault, Place, decoded, read_bytes
+from plantbal.sentence import Joined, Phrase, Sentence, counted, phrase
 from plantbal.workbook.hourheads import NamedBy
 from plantbal.workbook.locales import check_locale
 from plantbal.workbook.sheetkinds import SHEETS
@@ -149,7 +150,9 @@ def parse_mapping(name: str, text: str) -> WorkbookMapping:
         told = tomllib.loads(text)
     except (tomllib.TOMLDecodeError, RecursionError) as error:
         remedy = "correct it, or let plantbal-desk map write it again"
-        raise InputFault(f"this isn't TOML: {error}", place=place, remedy=remedy) from error
+        raise InputFault(
+            Sentence("this isn't TOML: {error}", error=error), place=place, remedy=remedy
+        ) from error
     return _MappingReading(name, text).mapping(told)
 
 
@@ -163,11 +166,15 @@ class _MappingReading:
     def mapping(self, told: dict[str, Any]) -> WorkbookMapping:
         """Return the mapping."""
         if told.pop("form", FORM) != FORM:
-            raise self.fault("form", f"this is a mapping of the form {told.get('form')}", "write 1")
+            raise self.fault(
+                "form",
+                Sentence("this is a mapping of the form {number}", number=told.get("form")),
+                "write 1",
+            )
         sheets = told.pop("sheet", [])
         if not isinstance(sheets, list) or not all(isinstance(each, dict) for each in sheets):
             raise self.fault("sheet", "this isn't a list of sheets", "write [[sheet]] over each")
-        found = WorkbookMapping(**self.checked(told, WorkbookMapping, "the mapping"))
+        found = WorkbookMapping(**self.checked(told, WorkbookMapping, Phrase("the mapping")))
         made = tuple(map(self.sheet, sheets))
         self._check_open()
         self._locale(found.locale)
@@ -175,7 +182,9 @@ class _MappingReading:
         for name in dict.fromkeys(names):
             if names.count(name) > 1 and name != "env":
                 both = [each for each, to in found.names.items() if to == name]
-                what = f"{' and '.join(map(repr, both))} would both be {name}"
+                what = Sentence(
+                    "{both} would both be {name}", both=Joined(" and ", map(repr, both)), name=name
+                )
                 raise self.fault(both[1], what, "give each a name of its own in [names]")
         return replace(found, sheets=made)
 
@@ -183,23 +192,34 @@ class _MappingReading:
         """Return a sheet."""
         for key in ("name", "kind"):
             if key not in told:
-                raise self.fault("[[sheet]]", f"a sheet has no {key}", f"write {key} = ..")
-        found = SheetMapping(**self.checked(told, SheetMapping, f"the sheet {told['name']!r}"))
+                raise self.fault(
+                    "[[sheet]]",
+                    Sentence("a sheet has no {key}", key=key),
+                    Sentence("write {key} = ..", key=key),
+                )
+        found = SheetMapping(
+            **self.checked(told, SheetMapping, Sentence("the sheet {told!r}", told=told["name"]))
+        )
         if found.kind and found.kind != OPEN and found.kind not in SHEETS:
-            remedy = f"write one of {', '.join(SHEETS)}, or nothing to skip the sheet"
-            raise self.fault(found.kind, f"there is no kind of sheet {found.kind!r}", remedy)
+            what = Sentence("there is no kind of sheet {kind!r}", kind=found.kind)
+            ask = "write one of {sheets}, or nothing to skip the sheet"
+            raise self.fault(found.kind, what, Sentence(ask, sheets=Joined(", ", SHEETS)))
         self._check_hours(found)
         self._check_columns(found)
         self._locale(found.locale)
         if found.month and not re.fullmatch(r"name|\?|[0-9]{4}-(0[1-9]|1[0-2])", found.month):
             remedy = "write it as 2024-01, or name if the sheet's name says it"
-            raise self.fault("month", f"{found.month!r} isn't a month", remedy)
+            raise self.fault(
+                "month", Sentence("{month!r} isn't a month", month=found.month), remedy
+            )
         if found.year and not re.fullmatch(r"name|head|\?|20[0-9]{2}", found.year):
             remedy = "write it as 2024, name if the sheet's name says it, or head if the heads do"
-            raise self.fault("year", f"{found.year!r} isn't a year", remedy)
+            raise self.fault("year", Sentence("{year!r} isn't a year", year=found.year), remedy)
         for head, figure in found.counters.items():
             if figure not in ("", OPEN) and not re.fullmatch("[1-9][0-9]{0,17}", figure):
-                what = f"{figure!r} isn't a figure at which a counter begins again"
+                what = Sentence(
+                    "{figure!r} isn't a figure at which a counter begins again", figure=figure
+                )
                 raise self.fault(head, what, "write a whole number, such as 1000000")
         for head in found.given:
             known = (
@@ -208,23 +228,32 @@ class _MappingReading:
                 else {head}
             )
             if head not in known | ({"tag"} if found.hours else set()):
-                what = f"the sheet {found.kind} has no column {head!r}"
-                raise self.fault(head, what, f"it has {', '.join(SHEETS[found.kind].heads)}")
+                what = Sentence(
+                    "the sheet {kind} has no column {head!r}", kind=found.kind, head=head
+                )
+                raise self.fault(
+                    head,
+                    what,
+                    Sentence("it has {heads}", heads=Joined(", ", SHEETS[found.kind].heads)),
+                )
         return found
 
     def _check_hours(self, found: SheetMapping) -> None:
         """Refuse what can't be said of the hours of a day across."""
         words = [each.value for each in NamedBy]
         if found.hours and found.hours not in (OPEN, *words):
-            remedy = f"write one of {', '.join(words)}, or nothing without such heads"
-            raise self.fault("hours", f"{found.hours!r} doesn't name hours", remedy)
+            what = Sentence("{hours!r} doesn't name hours", hours=found.hours)
+            ask = "write one of {words}, or nothing without such heads"
+            raise self.fault("hours", what, Sentence(ask, words=Joined(", ", words)))
         if found.hours and found.kind not in ("readings", OPEN):
-            what = f"a sheet {found.kind!r} has no hours of a day across"
+            what = Sentence("a sheet {kind!r} has no hours of a day across", kind=found.kind)
             raise self.fault("hours", what, "leave hours out")
         if found.twice and (found.twice != BOTH or not found.hours):
             remedy = 'write "both" if the figure of one column is of both hours, or leave it out'
             raise self.fault(
-                "twice", f"{found.twice!r} doesn't say of which hour a figure is", remedy
+                "twice",
+                Sentence("{twice!r} doesn't say of which hour a figure is", twice=found.twice),
+                remedy,
             )
 
     def _check_columns(self, found: SheetMapping) -> None:
@@ -239,9 +268,13 @@ class _MappingReading:
                 continue  # the name of a tank, perhaps with what of it stands there
             near = difflib.get_close_matches(column, known, n=1)
             remedy = (
-                f"did you mean {near[0]}?" if near else f"the columns are {', '.join(kind.heads)}"
+                Sentence("did you mean {near}?", near=near[0])
+                if near
+                else Sentence("the columns are {heads}", heads=Joined(", ", kind.heads))
             )
-            what = f"the sheet {found.kind} has no column {column!r}"
+            what = Sentence(
+                "the sheet {kind} has no column {column!r}", kind=found.kind, column=column
+            )
             raise self.fault(head, what, remedy)
 
     def checked(self, told: dict[str, Any], form: type, what: str) -> dict[str, Any]:
@@ -251,16 +284,24 @@ class _MappingReading:
         for key, value in told.items():
             if key not in known or key == "sheets":
                 near = difflib.get_close_matches(key, known, n=1)
-                remedy = f"did you mean {near[0]}?" if near else f"it may have {', '.join(known)}"
-                raise self.fault(key, f"{what} has no key {key!r}", remedy)
+                remedy = (
+                    Sentence("did you mean {near}?", near=near[0])
+                    if near
+                    else Sentence("it may have {known}", known=Joined(", ", known))
+                )
+                raise self.fault(
+                    key, Sentence("{what} has no key {key!r}", what=what, key=key), remedy
+                )
             found[key] = self._value(key, value, str(known[key].type), what)
         return found
 
     def _value(self, key: str, value: Any, form: str, what: str) -> Any:
         sort = form.split("[")[0]
         if not _FORMS[sort](value):
-            remedy = f"write it as {_SAID[sort]}"
-            raise self.fault(key, f"{key} of {what} is of another form", remedy)
+            remedy = Sentence("write it as {said}", said=phrase(_SAID[sort]))
+            raise self.fault(
+                key, Sentence("{key} of {what} is of another form", key=key, what=what), remedy
+            )
         return tuple(value) if isinstance(value, list) else value
 
     def _locale(self, locale: str) -> None:
@@ -273,10 +314,11 @@ class _MappingReading:
         """Refuse a mapping in which a question is open."""
         open_ = [at for at, line in enumerate(self.lines, 1) if re.search(r'=\s*"\?"', line)]
         if open_:
-            are = "question is" if len(open_) == 1 else "questions are"
             lines = ", ".join(map(str, open_[:8])) + (" .." if len(open_) > 8 else "")
+            one = '1 question is open: a "?" is in the lines {lines}'
+            many = '{count} questions are open: a "?" is in the lines {lines}'
             raise InputFault(
-                f'{len(open_)} {are} open: a "?" is in the lines {lines}',
+                counted(len(open_), one, many, lines=lines),
                 place=Place(file=self.name, line=open_[0]),
                 remedy="write in its place what is right; the remark beside it says what may be",
             )

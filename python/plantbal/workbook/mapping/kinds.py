@@ -7,6 +7,7 @@ from collections.abc import Mapping, Sequence
 from dataclasses import dataclass
 from decimal import Decimal
 
+from plantbal.sentence import Sentence, counted
 from plantbal.workbook.mapping.columns import Columns
 from plantbal.workbook.mapping.form import OPEN
 from plantbal.workbook.mapping.known import KnownPlant, tag_in
@@ -24,6 +25,7 @@ from plantbal.workbook.mapping.vocabulary import (
     cover_meaning,
     sheet_meanings,
 )
+from plantbal.workbook.mapping.why import several
 from plantbal.workbook.sheetkinds import PASSED, SHEETS
 from plantbal.workbook.sheets import Sheet
 from plantbal.workbook.units import LENGTHS
@@ -75,15 +77,23 @@ class KindsOfSheets:
         if cover is not None and not any(c.has_figures for c in profile.columns):
             return "", cover.said()
         if profile.hours and not self._has_tanks(profile):
-            return "readings", f"{len(profile.hours)} of its heads are the hours of a day"
+            return "readings", Sentence(
+                "{count} of its heads are the hours of a day", count=len(profile.hours)
+            )
         meanings = [each for each in sheet_meanings(name) if each.of in SHEETS]
         fit = (each for each in meanings if self._fits(profile, each.of))
         meaning = next(fit, next(iter(meanings), None))
         by_name = plain if plain in SHEETS else meaning.of if meaning else ""
         by_name = by_name if by_name in SHEETS else ""
-        said = f"its name is {plain}" if plain in SHEETS else meaning.said() if meaning else ""
+        said = (
+            Sentence("its name is {plain}", plain=plain)
+            if plain in SHEETS
+            else meaning.said()
+            if meaning
+            else ""
+        )
         if by_name == "gauges" and any(column.has_days for column in profile.columns):
-            by_name, said = "dips", f"{said}, but it has days, and so levels"
+            by_name, said = "dips", Sentence("{said}, but it has days, and so levels", said=said)
         by_shape, shape_said = self._by_shape(profile, by_name)
         if by_shape:
             return by_shape, shape_said
@@ -94,22 +104,27 @@ class KindsOfSheets:
             return by_name, said
         if by_heads:
             needed = ", ".join(SHEETS[by_heads].needed)
-            return by_heads, f"its heads say {needed}" + (
-                f"; {said}" if by_name == by_heads else ""
-            )
+            by_words = Sentence("its heads say {needed}", needed=needed)
+            return by_heads, several(by_words, said if by_name == by_heads else "")
         if by_name and profile.at is not None:
-            return by_name, f"{said}; its heads don't tell more"
+            return by_name, Sentence("{said}; its heads don't tell more", said=said)
         if by_name == "readings" or plain in SHEETS:
             return by_name, said
         if profile.at is None and self._has_tags_beside(profile.sheet):
             return "readings", "tags of the plant are beside the days of a month, by their numbers"
         if profile.at is None and _has_rows_of_figures(profile.sheet):
-            return OPEN, f"there are rows of figures in it, and no heads: {_kinds_said()}"
+            return OPEN, Sentence(
+                "there are rows of figures in it, and no heads: {kinds_said}",
+                kinds_said=_kinds_said(),
+            )
         if profile.at is None or not any(c.numbers or c.mixed for c in profile.columns):
             return "", "there is no figure below heads in it"
         return (
             OPEN,
-            f"there are figures in it, and neither name nor heads say what: {_kinds_said()}",
+            Sentence(
+                "there are figures in it, and neither name nor heads say what: {kinds_said}",
+                kinds_said=_kinds_said(),
+            ),
         )
 
     def _has_tanks(self, profile: SheetProfile) -> bool:
@@ -168,13 +183,14 @@ class KindsOfSheets:
         if by_name == "densities" and (tags or tanks) and not heads:
             return "densities", "its name says so, and names of the plant are its heads"
         if (len(tags) > 1 or tags and days) and len(tags) >= len(tanks) and not heads:
-            count = "1 of its heads is a tag or stream" if len(tags) == 1 else ""
-            count = count or f"{len(tags)} of its heads are tags or streams"
-            return "readings", f"{count} of the plant"
+            one = "1 of its heads is a tag or stream of the plant"
+            many = "{count} of its heads are tags or streams of the plant"
+            return "readings", counted(len(tags), one, many)
         pairs = tank_pairs(profile, self.known.tanks)
         if pairs and not days and not heads:
-            tank = "1 tank is" if pairs == 1 else f"{pairs} tanks are"
-            return "straps", f"{tank} over pairs of levels and volumes"
+            one = "1 tank is over pairs of levels and volumes"
+            many = "{count} tanks are over pairs of levels and volumes"
+            return "straps", counted(pairs, one, many)
         if tanks and not heads and 2 * len(tanks) >= len(profile.columns) - 2:
             return self._of_tanks(profile, tanks, days)
         months = [c for c in profile.columns if month_of_head(c.head)]
@@ -191,16 +207,20 @@ class KindsOfSheets:
         self, profile: SheetProfile, tanks: list[ColumnProfile], days: list[ColumnProfile]
     ) -> tuple[str, str]:
         """Return whether columns of tanks have levels of days, or volumes of levels."""
-        count = f"{len(tanks)} of its heads are tanks"
+        count = Sentence("{count} of its heads are tanks", count=len(tanks))
         if days:
-            return "dips", f"{count}, and {days[0].key!r} has days"
+            return "dips", Sentence("{count}, and {key!r} has days", count=count, key=days[0].key)
         if any(column.unit in LENGTHS for column in tanks):
-            return "dips", f"{count}, with levels in {tanks[0].unit}"
+            return "dips", Sentence(
+                "{count}, with levels in {unit}", count=count, unit=tanks[0].unit
+            )
         kind = Columns(profile, SHEETS["dips"], self.known)
         if "day" in kind.assigned().values():
-            return "dips", f"{count}, and it has the days of a month by their numbers"
+            return "dips", Sentence(
+                "{count}, and it has the days of a month by their numbers", count=count
+            )
         if any("level" in meant_by(column.name) for column in profile.columns):
-            return "straps", f"{count}, beside a column of levels"
+            return "straps", Sentence("{count}, beside a column of levels", count=count)
         return "", ""
 
 
@@ -219,15 +239,23 @@ def _densities_said(profile: SheetProfile, months: list[ColumnProfile], by_name:
         text for text in titles if "density" in meant_by(text) or "densities" in _sheets_of(text)
     ]
     if by_name == "densities" or said:
-        why = "its name says so" if by_name == "densities" else f"{said[0][:60]!r} is in it"
-        return f"{why}, and {len(months)} heads are months"
+        why = (
+            Sentence("its name says so")
+            if by_name == "densities"
+            else Sentence("{said!r} is in it", said=said[0][:60])
+        )
+        return Sentence("{why}, and {count} heads are months", why=why, count=len(months))
     numbers = [number for column in months for number in column.decimals]
     if numbers and (
         all(500 <= each <= 1200 for each in numbers)
         or all(Decimal("0.5") <= each <= Decimal("1.2") for each in numbers)
     ):
         ends = f"{min(numbers)} to {max(numbers)}"
-        return f"{len(months)} heads are months, and the figures, {ends}, are as densities are"
+        return Sentence(
+            "{count} heads are months, and the figures, {ends}, are as densities are",
+            count=len(months),
+            ends=ends,
+        )
     return ""
 
 

@@ -10,6 +10,7 @@ from collections.abc import Sequence
 from dataclasses import dataclass, field
 from decimal import Decimal
 
+from plantbal.sentence import Sentence
 from plantbal.workbook.cells import MISSING
 from plantbal.workbook.hourheads import HourHead, hour_head, hour_heads
 from plantbal.workbook.mapping.known import tag_in
@@ -400,7 +401,7 @@ def _column(
     column = ColumnProfile(at, text, name, unit, "its head says so" if unit else "")
     below = units[at] if at < len(units) else None
     if isinstance(below, str) and _unit(below):
-        column.unit, column.unit_said = _unit(below), f"row {units_row} says so"
+        column.unit, column.unit_said = _unit(below), Sentence("row {row} says so", row=units_row)
     return column
 
 

@@ -14,6 +14,7 @@ from collections.abc import Iterable, Mapping, Sequence
 from dataclasses import dataclass, field, replace
 from decimal import Decimal
 
+from plantbal.sentence import Joined, Phrase, Sentence, phrase
 from plantbal.workbook.mapping.acrosshours import HourColumns
 from plantbal.workbook.mapping.columns import Columns
 from plantbal.workbook.mapping.dating import month_said
@@ -24,6 +25,7 @@ from plantbal.workbook.mapping.months import pattern_of
 from plantbal.workbook.mapping.names import is_name, unused_name
 from plantbal.workbook.mapping.profile import SheetProfile, days_across, profile_of
 from plantbal.workbook.mapping.vocabulary import plain_word, sheet_meanings, value_meaning
+from plantbal.workbook.mapping.why import several
 from plantbal.workbook.mapping.words import LANGUAGES
 from plantbal.workbook.mapping.written import Written
 from plantbal.workbook.sheetkinds import SHEETS
@@ -52,10 +54,11 @@ class MappingProposal:
 
     def open(self) -> list[str]:
         """Return the questions that are open, a sentence each."""
-        found = []
+        found: list[str] = []
         for path, value in _values(self.mapping):
             if value == OPEN:
-                found.append(f"{_said(self.mapping, path)}: {self.evidence.get(path, '')}")
+                what, why = _said(self.mapping, path), phrase(self.evidence.get(path, ""))
+                found.append(Sentence("{what}: {why}", what=what, why=why))
         return found
 
 
@@ -183,7 +186,9 @@ class _Proposing:
         path: Path_ = ("sheet", at)
         self.evidence[(*path, "kind")] = said
         if name != self.sheets[at].name:
-            self.evidence[(*path, "name")] = f"{self.sheets[at].name!r} names a month"
+            self.evidence[(*path, "name")] = Sentence(
+                "{name!r} names a month", name=self.sheets[at].name
+            )
         if kind in ("", OPEN):
             return SheetMapping(name, kind)
         if kind == "readings" and self.profiles[at].at is None:
@@ -286,9 +291,8 @@ class _Proposing:
                 self._own_locale(at, own, made, said)
         language = self.languages.most_common(1)[0][0] if self.languages else "en"
         locale, why = said.locale(language)
-        self.evidence["locale",] = why
-        if self.languages:
-            self.evidence["locale",] += f"; its heads are {LANGUAGES[language]}"
+        heads = Sentence("its heads are {language}", language=Phrase(LANGUAGES[language]))
+        self.evidence["locale",] = several(why, heads if self.languages else "")
         return locale
 
     def _own_locale(self, at: int, own: Written, made: list[SheetMapping], others: Written) -> None:
@@ -296,10 +300,14 @@ class _Proposing:
         language = self._language(at)
         locale, why = own.locale(language)
         made[at] = replace(made[at], locale=locale)
-        mark = {",": "a decimal comma", ".": "a decimal point"}.get(others.mark, "another form")
-        self.evidence[
-            "sheet", at, "locale"
-        ] = f"{why}; its heads are {LANGUAGES[language]}, and other sheets have {mark}"
+        marks = {",": "a decimal comma", ".": "a decimal point"}
+        mark = Phrase(marks.get(others.mark, "another form"))
+        self.evidence["sheet", at, "locale"] = Sentence(
+            "{why}; its heads are {language}, and other sheets have {mark}",
+            why=phrase(why),
+            language=Phrase(LANGUAGES[language]),
+            mark=mark,
+        )
 
     def _language(self, at: int) -> str:
         """Return the language of a sheet: that of most of its heads."""
@@ -331,8 +339,11 @@ class _Proposing:
                         if isinstance(value, str) and not re.search("[0-9#]", value)
                     )
         if found:
-            said = ", ".join(f"{word!r} {count} times" for word, count in found.most_common(5))
-            self.evidence["missing",] = f"in the place of figures: {said}"
+            form = "{word!r} {count} times"
+            some = [Sentence(form, word=word, count=n) for word, n in found.most_common(5)]
+            self.evidence["missing",] = Sentence(
+                "in the place of figures: {said}", said=Joined(", ", some)
+            )
         return list(found)
 
     # ---- several plants
@@ -357,7 +368,9 @@ class _Proposing:
         found = []
         for at, sheet in enumerate(made):
             rest = rests.get(at, "")
-            self.evidence["sheet", at, "plant"] = f"its name has {rest!r}" if rest else ""
+            self.evidence["sheet", at, "plant"] = (
+                Sentence("its name has {rest!r}", rest=rest) if rest else ""
+            )
             found.append(_of_plant(sheet, rest, self.plant))
         return found
 
@@ -374,7 +387,9 @@ class _Proposing:
     def _ask_site(self, plants: Sequence[str], why: str) -> None:
         names = ", ".join(plants)
         matched = [name for name in plants if plain_word(name) == plain_word(self.plant)]
-        self.evidence["plant",] = f"the workbook has several plants, {names}: {why}"
+        self.evidence["plant",] = Sentence(
+            "the workbook has several plants, {names}: {why}", names=names, why=Phrase(why)
+        )
         self.plant = matched[0] if matched else OPEN
 
 

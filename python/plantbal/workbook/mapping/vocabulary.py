@@ -11,6 +11,7 @@ import unicodedata
 from collections.abc import Iterator
 from dataclasses import dataclass
 
+from plantbal.sentence import Phrase, Sentence
 from plantbal.workbook.mapping.words import (
     COLUMN_WORDS,
     COUNTER_WORDS,
@@ -46,7 +47,10 @@ class Meaning:
 
     def said(self) -> str:
         """Return it as evidence."""
-        return f"{self.word!r} is {LANGUAGES[self.language]} for {self.of}"
+        language = Phrase(LANGUAGES[self.language])
+        return Sentence(
+            "{word!r} is {language} for {of}", word=self.word, language=language, of=self.of
+        )
 
 
 def plain_word(text: str) -> str:

@@ -10,6 +10,7 @@ import datetime
 import re
 from collections.abc import Iterable
 from dataclasses import dataclass, field, fields
+from plantbal.sentence import Sentence
 
 _COMMA = re.compile(
     r"[-+]?[0-9]{1,3}(?:\.[0-9]{3})+,[0-9]+|[-+]?[0-9]+,(?:[0-9]{1,2}|[0-9]{4,})|[-+]?0,[0-9]+"
@@ -119,33 +120,50 @@ class Written:
             The language of most heads, which chooses among those with the same figures.
         """
         if self.comma and self.point:
-            return "?", f"{self.comma[0]!r} has a decimal comma, and {self.point[0]!r} a point"
+            return "?", Sentence(
+                "{comma!r} has a decimal comma, and {point!r} a point",
+                comma=self.comma[0],
+                point=self.point[0],
+            )
         if self.day_first and self.month_first:
-            both = f"{self.day_first[0]!r} has its day first, and {self.month_first[0]!r} its month"
+            both = Sentence(
+                "{day_first!r} has its day first, and {month_first!r} its month",
+                day_first=self.day_first[0],
+                month_first=self.month_first[0],
+            )
             return "?", both
         if self.any_order and not (self.day_first or self.month_first):
             if not self.comma or language == "en":
-                return "?", f"{self.any_order[0]!r} can be read as two days: en_GB, or en_US"
+                return "?", Sentence(
+                    "{any_order!r} can be read as two days: en_GB, or en_US",
+                    any_order=self.any_order[0],
+                )
         if self.comma:
-            count = len(self.comma)
-            said = f"{count} figures have a decimal comma, such as {self.comma[0]!r}"
+            form = "{count} figures have a decimal comma, such as {comma!r}"
+            said = Sentence(form, count=len(self.comma), comma=self.comma[0])
             return _OF.get(language if language != "en" else "de", "de_DE"), said
         if self.either and not self.point:
             return (
                 "?",
-                f"{self.either[0]!r} is a decimal number in one country, thousands in another",
+                Sentence(
+                    "{either!r} is a decimal number in one country, thousands in another",
+                    either=self.either[0],
+                ),
             )
         order = "en_US" if self.month_first else "en_GB" if self.day_first else ""
         if self.point or order:
             count = len(self.point)
-            said = (
-                f"{count} figures have a decimal point, such as {self.point[0]!r}" if count else ""
-            )
+            some: list[str] = []
+            if count:
+                form = "{count} figures have a decimal point, such as {point!r}"
+                some.append(Sentence(form, count=count, point=self.point[0]))
             days = [*self.month_first, *self.day_first]
-            said += (", and " if said and days else "") + (
-                f"days are as {days[0]!r}" if days else ""
-            )
-            return order or "en", said
+            if days:
+                some.append(Sentence("days are as {days!r}", days=days[0]))
+            if len(some) > 1:
+                form = "{figures}, and {days}"
+                return order or "en", Sentence(form, figures=some[0], days=some[1])
+            return order or "en", some[0]
         return "", "its figures and days are cells of numbers and days, which need no locale"
 
 
