@@ -31,7 +31,7 @@ _plantbal_desk() {
         run:--sweeps) :; return ;;
         run:--eliminate) :; return ;;
         lint:--accounts) _plantbal_files -f; return ;;
-        lint:--ignore) _plantbal_words 'refused nothing-asked missing-reading missing-dip no-period after-report one-sided never-served near-names magnitude small-deviation large-deviation density exchanged strap-slope scatter worse-class no-critical no-balance after-balance unchecked-grade unused-assay grade no-cost no-account nearly-full negative-flow tank-jump tank-range zero frozen negative copy estimated no-owner untested no-elimination no-transfer unused-dip not-reported'; return ;;
+        lint:--ignore) _plantbal_words 'refused nothing-asked missing-reading missing-dip no-period after-report one-sided never-served near-names magnitude small-deviation large-deviation density exchanged strap-slope scatter worse-class no-critical no-balance after-balance unchecked-grade unused-assay grade no-cost no-account nearly-full not-looked-at negative-flow tank-jump tank-range zero frozen negative copy estimated no-owner untested no-elimination no-transfer unused-dip not-reported'; return ;;
         lint:--timeout) :; return ;;
         lint:--book) _plantbal_files -d; return ;;
         explain:--fact) :; return ;;

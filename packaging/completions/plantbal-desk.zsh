@@ -29,7 +29,7 @@ _plantbal_desk() {
             '--json[a list of objects in place of lines]'
             '--accounts=[the accounts of a book, accounts.csv\: what is in no account is a finding too]:FILE:_files'
             '--strict[status 1 on warnings too]'
-            '--ignore=[leave findings of this code out; may be given more than once]:CODE:(refused nothing-asked missing-reading missing-dip no-period after-report one-sided never-served near-names magnitude small-deviation large-deviation density exchanged strap-slope scatter worse-class no-critical no-balance after-balance unchecked-grade unused-assay grade no-cost no-account nearly-full negative-flow tank-jump tank-range zero frozen negative copy estimated no-owner untested no-elimination no-transfer unused-dip not-reported)'
+            '--ignore=[leave findings of this code out; may be given more than once]:CODE:(refused nothing-asked missing-reading missing-dip no-period after-report one-sided never-served near-names magnitude small-deviation large-deviation density exchanged strap-slope scatter worse-class no-critical no-balance after-balance unchecked-grade unused-assay grade no-cost no-account nearly-full not-looked-at negative-flow tank-jump tank-range zero frozen negative copy estimated no-owner untested no-elimination no-transfer unused-dip not-reported)'
             '--timeout=[end after that many seconds (default\: 300)]:SECONDS:'
             '--book=[the book that the session is from\: what it has quieted is counted, but not listed]:FOLDER:_files -/'
             '1:word:(lint)'

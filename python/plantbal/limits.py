@@ -43,6 +43,8 @@ FAULTS_KEPT = 10_000
 
 # Seconds that lint has for a session: one of 200,000 facts takes a few.
 LINT_SECONDS = 300.0
+# Streams of periods that lint looks at, for all rows that ask for output: three seconds a million.
+LINT_STREAMS = 8_000_000
 # Seconds that graphviz has for a drawing.
 DRAWING_SECONDS = 60.0
 # A mapping of a workbook, or of a database.

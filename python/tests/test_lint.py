@@ -14,6 +14,7 @@ from hypothesis import strategies as st
 from mistakes import BASE, MISTAKES, Mistake
 
 import plantbal
+from plantbal import limits
 from plantbal.fleet.running import lint_plants
 from plantbal.fleet.rows import FleetPlant, FleetRow
 from plantbal.fleet.sites import sites
@@ -21,6 +22,8 @@ from plantbal.fleet.taking import Taker
 from plantbal.lint import brief, lint_session, summary
 from plantbal.lint.findings import RULES, SEVERITIES
 from plantbal.lint.plant import near_pairs, one_letter_apart
+from plantbal.lint.rules import find
+from plantbal.model.ledger import Ledger
 from plantbal.model.topology import Arc, classes_of, degrees_of_freedom
 from plantbal.program import call
 from plantbal.report.blocks import Block, blocks_of
@@ -417,7 +420,7 @@ def test_code(code: str, session: str, text: str) -> None:
 
 def test_each_code_has_a_case() -> None:
     silent = {"exchanged", "strap-slope", "scatter"}  # which have tests of their own
-    others = {"nearly-full", "no-account", "no-owner"} | silent
+    others = {"nearly-full", "not-looked-at", "no-account", "no-owner"} | silent
     assert {case[0] for case in CASES} | others == set(RULES)
 
 
@@ -683,3 +686,62 @@ def test_lint_ends(say: Desk, tmp_path: Path) -> None:
     found = say("lint", "--timeout", "0.2", path)
     assert time.monotonic() - begun < 20
     assert found.status == 3 and "lint didn't finish within 0.2 s: use --timeout" in found.err
+
+
+# ---- more than lint looks at
+
+TWICE = """version,2
+unit,U
+stream,S,env,U,metered,1
+stream,T,U,env,metered,1
+stream,P,U,env,plain,0
+period,a,2024-01-01,2024-01-01
+period,b,2024-01-02,2024-01-02
+reading,s1,S,2024-01-01,1000,10
+reading,t1,T,2024-01-01,1000,10
+reading,s2,S,2024-01-02,1000,10
+assay,cu,S,a,1000,10
+assay,cu,T,a,1000,10
+"""
+ASKS = {
+    "windows": ["window,a,b"],
+    "reports": ["report,a", "report,b"],
+    "balances": ["component,cu,a"],
+    "designs": ["design"],
+    "advice": ["advise,P,1"],
+}
+
+
+@pytest.mark.parametrize("kind", ASKS)
+def test_more_is_asked_for_than_is_looked_at(kind: str, monkeypatch: pytest.MonkeyPatch) -> None:
+    """The finding is at the first row that isn't looked at, and what isn't asked for isn't judged."""
+    asked = "".join(f"{row}\namend,s1,{1000 + n},10,why\n" for n in range(50) for row in ASKS[kind])
+    rows = f"{TWICE}{asked}report,a\nreport,b\nwindow,a,b\ncomponent,cu,a\n"
+    whole = [each.code for each in lint_session(rows.encode())]
+    assert "not-looked-at" not in whole
+    monkeypatch.setattr(limits, "LINT_STREAMS", 1000)
+    some = lint_session(rows.encode())
+    (said,) = [each for each in some if each.code == "not-looked-at"]
+    first = said.place.line
+    assert first is not None and rows.split("\n")[first - 1].split(",")[0] in ASKED_KINDS
+    assert 12 < first < rows.count("\n") and said.severity == "warning"
+    assert not {"not-reported", "no-balance", "after-report"} & {each.code for each in some}
+    beyond = rows.split("\n")[first - 1 :]
+    count = sum(row.split(",")[0] in ASKED_KINDS for row in beyond)
+    assert said.text.startswith(f"{count} row")
+
+
+ASKED_KINDS = ("report", "window", "component", "design", "advise")
+
+
+def test_lint_keeps_the_last_row_of_each_subject() -> None:
+    """What it finds is the same, and a session that asks often takes no more memory."""
+    rows = (
+        TWICE + "report,a\nwindow,a,b\n" * 30 + "reading,t2,T,2024-01-02,9,10\nreport,b\nreport,a\n"
+    )
+    ledger, kept = Ledger("s", rows.encode()), Ledger("s", rows.encode(), most=10**6)
+    assert (len(ledger.seen), len(kept.seen)) == (62, 3)
+    assert kept.reported.keys() == ledger.reported.keys() and kept.windows == ledger.windows
+    for name, seen in kept.reported.items():
+        assert seen.line == ledger.reported[name].line
+    assert [*find(ledger)] == [*find(kept)]

@@ -67,6 +67,7 @@ RULES: dict[str, Rule] = {
         Rule("no-cost", "warning", "a plain stream has no cost in an advise row that names costs"),
         Rule("no-account", "warning", "with --accounts: a stream or tank is in no account"),
         Rule("nearly-full", "warning", "a session is at 80 % of a limit or above"),
+        Rule("not-looked-at", "warning", "more is asked for than lint looks at"),
         *(
             Rule(gate.value, "warning", about(gate))
             for gate in (

@@ -271,6 +271,15 @@ def no_transfers(ledger: Ledger) -> Iterator[Finding]:
                 )
 
 
+def not_looked_at(ledger: Ledger) -> Iterator[Finding]:
+    """Yield that the last rows that ask for output weren't looked at, if that would take too long."""
+    if ledger.unlooked:
+        rows = "1 row" if ledger.unlooked == 1 else f"{ledger.unlooked:,} rows"
+        text = f"{rows} that ask for output, from here on, aren't looked at: there are too many"
+        remedy = "lint a session that asks for each report, window and balance once"
+        yield Finding("not-looked-at", text, remedy, place_in(ledger, ledger.unlooked_from))
+
+
 def not_reported(ledger: Ledger) -> Iterator[Finding]:
     """Yield the periods that have facts and no report."""
     if "report" not in ledger.asked:

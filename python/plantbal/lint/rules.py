@@ -14,6 +14,7 @@ from plantbal.lint.lacking import (
     missing_dips,
     missing_readings,
     no_transfers,
+    not_looked_at,
     not_reported,
     nothing_asked,
     refused_rows,
@@ -52,6 +53,10 @@ _FINDERS: tuple[Callable[[Ledger], Iterator[Finding]], ...] = (
 )
 
 
+# Those that would take a row that wasn't looked at for one that isn't there.
+_OF_ALL_ASKED = frozenset((missing_dips, after_report, not_reported, assays))
+
+
 def find(ledger: Ledger, left_out: Sequence[Refusal] = ()) -> Iterator[Finding]:
     """Give what looks wrong in a session, rule by rule.
 
@@ -63,5 +68,7 @@ def find(ledger: Ledger, left_out: Sequence[Refusal] = ()) -> Iterator[Finding]:
         Rows that were refused before the session was written.
     """
     yield from refused_rows(ledger, left_out)
+    yield from not_looked_at(ledger)
     for rule in _FINDERS:
-        yield from rule(ledger)
+        if not ledger.unlooked or rule not in _OF_ALL_ASKED:
+            yield from rule(ledger)

@@ -62,7 +62,7 @@ def _ledger(source: str, data: bytes) -> Ledger:
     fault = other_form(source, data)
     if fault is not None:
         raise fault
-    return Ledger(source, data, kept=1)
+    return Ledger(source, data, kept=1, most=limits.LINT_STREAMS)
 
 
 def summary(findings: Sequence[Finding]) -> str:

@@ -33,6 +33,8 @@ from plantbal.model.words import refusal_of
 from plantbal.records import without_empty_end
 
 _SPAN: Callable[[Fact], Span] = itemgetter(3, 4)
+# What a row that asks for output costs, in streams that are looked at.
+_ROW_COSTS = 100
 # The dips that open and close a tank over a period, if they are there.
 Dips = tuple[Fact | None, Fact | None]
 
@@ -212,6 +214,10 @@ class Ledger:
         Its bytes.
     kept : int or None
         How many refused rows are kept with what is said of them; None for all.
+    most : int or None
+        How much work the rows may cost that ask for output: a hundred each, and one for each stream of
+        a period that they have to look at. Then only the last row of each subject is kept, and rows
+        beyond it aren't looked at. None for all.
 
     Attributes
     ----------
@@ -229,9 +235,15 @@ class Ledger:
         The kinds of rows that ask for output.
     uncosted : dict of int to list of str
         The plain streams that an `advise` row with costs leaves out, by its line.
+    unlooked : int
+        How many rows that ask for output weren't looked at.
+    unlooked_from : int
+        The line of the first of them.
     """
 
-    def __init__(self, source: str, data: bytes, *, kept: int | None = None) -> None:
+    def __init__(
+        self, source: str, data: bytes, *, kept: int | None = None, most: int | None = None
+    ) -> None:
         self.source = source
         self.data = data
         self.state = State(installed_core())
@@ -241,12 +253,17 @@ class Ledger:
         self.designs: list[Declared] = []
         self.asked: set[str] = set()
         self.uncosted: dict[int, list[str]] = {}
+        self.unlooked = self.unlooked_from = 0
+        self._left = most
+        self._last: dict[tuple[str, str, str], Seen] = {}
         self._views: dict[str, View] = {}
         self._declared: tuple[list[str], list[Stream]] | None = None
         self._critical: dict[tuple[str, int], int] | None = None
         with uncollected():
             for step in steps(self.state, data, lambda: not self.refused.is_full, together=True):
                 self._take(step)
+        if most is not None:
+            self.seen = list(self._last.values())
 
     @classmethod
     def of_state(cls, source: str, state: State) -> Ledger:
@@ -271,7 +288,12 @@ class Ledger:
             self._refuse(step, step.answer)
         elif step.answer.effect.asks:
             self.asked.add(step.fields[0])
-            self._ask(step.answer.effect, step.at)
+            if self._left is None or self._left > 0:
+                self._pay(_ROW_COSTS)
+                self._ask(step.answer.effect, step.at)
+            else:
+                self.unlooked += 1
+                self.unlooked_from = self.unlooked_from or step.at.line
         else:
             self._changed()
 
@@ -279,6 +301,18 @@ class Ledger:
         """Forget what rows see by now: something is stored."""
         self._views.clear()
         self._critical = self._declared = None
+
+    def _pay(self, cost: int) -> None:
+        """Count the work of a row that asks for output, if it may cost only so much."""
+        if self._left is not None:
+            self._left -= cost
+
+    def _keep(self, seen: Seen) -> None:
+        """Keep what a row saw; if the work is counted, only the last of each subject."""
+        if self._left is None:
+            self.seen.append(seen)
+        else:
+            self._last[seen.component, seen.period.name, seen.last] = seen
 
     def _refuse(self, step: Step, answer: Refused) -> None:
         """Keep a refused row."""
@@ -292,20 +326,22 @@ class Ledger:
     def _ask(self, effect: Effect, at: At) -> None:
         """Keep what a row sees that asks for output."""
         if isinstance(effect, Report):
-            self.seen.append(self._seen(at, self._view(self.periods[effect.period])))
+            self._keep(self._seen(at, self._view(self.periods[effect.period])))
         elif isinstance(effect, Window):
             views = map(self._view, self.window_of(effect.first, effect.last))
-            self.seen.append(self._seen(at, *views, last=effect.last))
+            self._keep(self._seen(at, *views, last=effect.last))
         elif isinstance(effect, Component):
             seen = self._seen(at, self._view(self.periods[effect.period]))
             grades = self._grades(effect.component, effect.period)
-            self.seen.append(replace(seen, component=effect.component, grades=grades))
+            self._keep(replace(seen, component=effect.component, grades=grades))
         elif isinstance(effect, Design):
             if self._declared is None:
                 plant = self.state.plant
                 self._declared = [ENV, *plant.nodes], list(plant.streams.values())
+                self._pay(len(plant.nodes) + len(plant.streams))
             self.designs.append(Declared(at.line, *self._declared))
         elif isinstance(effect, Advise) and effect.costs:
+            self._pay(len(self.streams))
             plain = [name for name, each in self.streams.items() if each.kind == "plain"]
             named = set(effect.streams)
             self.uncosted[at.line] = [name for name in plain if name not in named]
@@ -324,6 +360,7 @@ class Ledger:
         view = self._views.get(period.name)
         if view is None:
             view = self._views[period.name] = view_of(self.state, period)
+            self._pay(len(view.streams))
         return view
 
     # ---- what is there in the end
