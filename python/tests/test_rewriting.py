@@ -21,9 +21,11 @@ from books import ANYWAY, Type, fixture_book, folder, month
 from conftest import Desk, text_of
 
 from plantbal import Book
+from plantbal.audit.approved import JudgedApprovals, read_approvals
 from plantbal.audit.archive import bundle_files
 from plantbal.audit.bundle import MANIFEST, OUTPUT, SESSION, Manifest, packed, unpacked
 from plantbal.audit.said import SentenceKind
+from plantbal.book.forms import is_year_file
 from plantbal.book.journal import (
     HEAD_TEXT,
     Kept,
@@ -403,6 +405,61 @@ def test_approvals_of_other_figures(room: Room, say: Desk) -> None:
         (room.path / "forged.zip").write_bytes(packed(files))
         said = say("audit", room.path / "forged.zip")
         assert said.status == 1 and what in said.out, said.out
+
+
+# The ticket of April is 800 t; its meters have three days of thirty, so they have no value.
+SINCE: dict[str, tuple[bytes, SentenceKind]] = {
+    "another month": (b"", SentenceKind.NOTE),
+    "an amendment of the month": (
+        b"amend,truck-04,900000000,10000000000,why\n",
+        SentenceKind.WRONG,
+    ),
+    "another variance": (b"amend,truck-04,800000000,20000000000,why\n", SentenceKind.WRONG),
+    "a ticket that is struck": (b"strike,truck-04,why\n", SentenceKind.WRONG),
+    "a late ticket": (
+        b"late,transfer,truck-x,TRUCKS,2024-04-30,2024-05-01,800000000,10000000000\n",
+        SentenceKind.WRONG,
+    ),
+    "a dip between two months": (
+        b"amend,SILO_2024-04-30,9600,1250000,779247562500,why\n",
+        SentenceKind.WRONG,
+    ),
+    "an amendment of the other month": (
+        b"amend,truck-05,900000000,10000000000,why\n",
+        SentenceKind.NOTE,
+    ),
+    "a reading of a meter without a value": (
+        b"amend,F-1_2024-04-02,1300000000,144000000000000,why\n",
+        SentenceKind.NOTE,
+    ),
+    "an amendment and back": (
+        b"amend,truck-04,900000000,10000000000,why\namend,truck-04,800000000,10000000000,back\n",
+        SentenceKind.NOTE,
+    ),
+}
+
+
+@pytest.mark.parametrize("case", SINCE)
+def test_rows_after_those_that_were_approved(case: str, room: Room, say: Desk) -> None:
+    """A figure of the approved month that they change is wrong; others are noted."""
+    more, wanted = SINCE[case]
+    files = dict(unpacked(room.path / "2024-04.zip").files)
+    manifest = Manifest.read(files[MANIFEST])
+    asks = b"report,2024-04\n"
+    assert asks in files[SESSION]
+    session = files[SESSION].replace(asks, more + asks)
+    output = call(manifest.words.split(" "), session)[1]
+    assert b"refused" not in output
+    approvals = read_approvals(manifest.approvals, None)
+    assert approvals is not None
+    judged = JudgedApprovals(approvals, session, output, manifest.book, False)
+    close = approvals.close
+    assert close.record is not None
+    (kept,) = [kept for name, kept in close.record.files.items() if is_year_file(name)]
+    assert [kind for kind, _ in judged.after(kept)] == [wanted]
+    (room.path / "made.zip").write_bytes(packed(bundle_files(session, output, manifest)))
+    said = say("audit", room.path / "made.zip", "--signers", room.path / "signers")
+    assert (" isn't what was approved: " in said.out) is (wanted is SentenceKind.WRONG)
 
 
 # ---- books

@@ -83,10 +83,16 @@ def test_the_step_of_a_temperature_is_that_of_its_factors() -> None:
 
 def test_the_seventh_decimal_of_a_coefficient_decides() -> None:
     """Two coefficients that are the same to seven decimals have one factor, also 135 degrees off."""
-    at = {text: petroleum(Group.COEFFICIENT, ANY, D(150), coefficient=D(text)).value for text in COEFFICIENTS}
+    at = {
+        text: petroleum(Group.COEFFICIENT, ANY, D(150), coefficient=D(text)).value
+        for text in COEFFICIENTS
+    }
     first, second, third = at.values()
     assert first == second != third
-    exact = [petroleum(Group.COEFFICIENT, ANY, D(150), Rounding.NONE, D(text)).value for text in COEFFICIENTS]
+    exact = [
+        petroleum(Group.COEFFICIENT, ANY, D(150), Rounding.NONE, D(text)).value
+        for text in COEFFICIENTS
+    ]
     assert len({*exact}) == 3
 
 
@@ -275,7 +281,9 @@ def test_table_54_turns_table_53_back(group: Group) -> None:
     for at in range(8, 89):
         for temperature in map(D, ("-10", "4.5", "14.95", "15", "22.5", "31.25", "37.8", "60")):
             observed = to_nearest(low + (high - low) * at / 100, D("0.5"))
-            exact = at_standard(group, observed, temperature, DensityInstrument.DENSITOMETER, Rounding.NONE)
+            exact = at_standard(
+                group, observed, temperature, DensityInstrument.DENSITOMETER, Rounding.NONE
+            )
             if any(abs(exact.density - border) < 1 for border in borders):
                 continue
             back = petroleum(group, exact.density, temperature, Rounding.NONE).value * exact.density
@@ -300,7 +308,9 @@ def test_table_53_turns_table_54_back(group: Group) -> None:
             continue
         for temperature in map(D, ("-10", "4.5", "22.5", "37.8", "60")):
             read = petroleum(group, density, temperature, Rounding.NONE).value * density
-            exact = at_standard(group, read, temperature, DensityInstrument.DENSITOMETER, Rounding.NONE)
+            exact = at_standard(
+                group, read, temperature, DensityInstrument.DENSITOMETER, Rounding.NONE
+            )
             assert abs(exact.density - density) < D("1e-9"), (density, temperature)
             # the observed density is rounded to 0.5 before, and the one at 15 degrees to 0.1
             found = at_standard(group, read, temperature, DensityInstrument.DENSITOMETER)

@@ -16,6 +16,7 @@ from dataclasses import dataclass, field
 from plantbal.audit.bundle import APPROVED, MANIFEST, OUTPUT, SESSION, Manifest
 from plantbal.audit.linked import only_asks
 from plantbal.audit.said import SentenceKind
+from plantbal.audit.since import changed_since
 from plantbal.audit.signed import given_keys, given_text
 from plantbal.book.approval.identity import Marks, marks_of, marks_of_line
 from plantbal.book.approval.record import ApprovalDeed, ApprovalRecord
@@ -390,7 +391,7 @@ class JudgedApprovals:
                     f"its session begins with the {kept.lines:,} rows of {name} that were approved"
                 )
                 yield SentenceKind.GOOD, what
-                yield from self._after(kept)
+                yield from self.after(kept)
             else:
                 what = f"its session doesn't begin with the rows of {name} that were approved"
                 yield SentenceKind.WRONG, what
@@ -406,8 +407,8 @@ class JudgedApprovals:
             what = f"the close is action {number}, and the head that it names is of a later one"
             yield SentenceKind.NOTE, f"{what}: --book compares what lies between"
 
-    def _after(self, kept: Kept) -> Iterator[tuple[SentenceKind, str]]:
-        """Give what was booked after the rows that were approved."""
+    def after(self, kept: Kept) -> Iterator[tuple[SentenceKind, str]]:
+        """Give what was booked after the rows that were approved, and what it changes of the period."""
         rows = self.session[kept.size or 0 :].split(b"\n")
         booked = [at for at, row in enumerate(rows) if row.strip() and not only_asks(row)]
         if booked:
@@ -416,7 +417,12 @@ class JudgedApprovals:
             what = (
                 f"{len(booked):,} {are} after those that were approved, the first in line {line:,}"
             )
-            yield SentenceKind.NOTE, f"{what}: --book says whether the book has them"
+            period = self.found.close.line.of
+            changed = changed_since(SESSION, self.session, kept.size or 0, period)
+            if changed:
+                yield SentenceKind.WRONG, f"{what}, and {period} isn't what was approved: {changed}"
+            else:
+                yield SentenceKind.NOTE, f"{what}: --book says whether the book has them"
 
     def _report(self, close: BundledAction, rows: list[int]) -> tuple[SentenceKind, str]:
         """Return whether the output is the report that was approved.
