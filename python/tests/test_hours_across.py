@@ -390,3 +390,14 @@ def test_a_book_keeps_mapping_and_cells(say: Desk, tmp_path: Path) -> None:
         ("F-1_2024-06-01", "300", "C3:Z3", 24, 24),
         ("F-2_2024-06-01", "300", "C4:Z4", 24, 24),
     ]
+
+
+def test_without_a_mapping_the_remedy_is_one(tmp_path: Path) -> None:
+    """No row has tags over its columns: if it has hours, the mapping reads them."""
+    remedies = set()
+    for heads in ([*range(24)], [*range(3)]):
+        rows: Rows = [["day", "tag", *heads], *[[day, "F-1", *heads] for day in MAY]]
+        found = convert(written(plant(rows, name="readings"), tmp_path / "a.xlsx"))
+        assert SheetCause.NO_TAGS in causes(found)
+        remedies |= {each.remedy for each in found.faults if each.place and not each.place.cell}
+    assert len(remedies) == 2

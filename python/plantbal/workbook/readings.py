@@ -16,7 +16,7 @@ from plantbal.workbook.cells import Error, Reader
 from plantbal.workbook.locales import day_order
 from plantbal.workbook.daily import Daily, long_by_day, wide_by_day
 from plantbal.workbook.fates import Fate, is_unit
-from plantbal.workbook.hourheads import HoursAcross
+from plantbal.workbook.hourheads import HoursAcross, hour_heads
 from plantbal.workbook.plant import PlantReader, StreamRow
 from plantbal.workbook.shapeparts import HEADS_WITHIN, cell_at, has_figure
 from plantbal.workbook.sheets import Cell, Sheet
@@ -32,6 +32,7 @@ _LONG = {
 }
 # The columns of a sheet with the hours of a day across, beside these.
 _OF_HOURS = ("day", "tag", "unit")
+_HOURS = 20  # heads that may be those of a day
 # How a day that was typed wrong begins, perhaps with its weekday; other texts are remarks.
 _LIKE_DAY = re.compile(r"(?:[^\W\d_]+[.,]?\s*)?[0-9]+\s?[./-]\s?[0-9]")
 
@@ -114,6 +115,8 @@ class Readings:
                     self._read_across(heads, list(islice(sheet.rows(), at + 1, None)))
                 else:
                     remedy = "write the tags of the sheet streams over the columns"
+                    if any(len(hour_heads(row)) > _HOURS for _, row in sheet.lines[:HEADS_WITHIN]):
+                        remedy = "let plantbal-desk map write a mapping, which reads hours across"
                     place = sheet.place(sheet.lines[0][0])
                     raise CausedFault(SheetCause.NO_TAGS(), place=place, remedy=remedy)
         for stream in self.plant.tags.values():
