@@ -246,6 +246,13 @@ def test_entities_are_refused(part: str) -> None:
         read(packed("", **{part: declared + text}))
 
 
+def test_a_million_shared_strings() -> None:
+    """They are read once, and take no more of a cell than the one that it names."""
+    texts = f'<sst xmlns="{MAIN}">{"<si><t>a</t></si>" * 1_000_000}</sst>'
+    rows = '<sheetData><row r="1"><c t="s"><v>999999</v></c></row></sheetData>'
+    assert read(packed(rows, texts=texts))[0].lines == [(1, ["a"])]
+
+
 def test_cells_without_a_reading_of_openpyxl() -> None:
     """A formula without a value, a row that is there twice, hidden rows and columns, a hidden sheet."""
     columns = '<cols><col min="2" max="3" hidden="1"/><col min="9" max="16384" hidden="1"/></cols>'

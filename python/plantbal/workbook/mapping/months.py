@@ -15,7 +15,8 @@ _NUMBERS = re.compile(
     r"(?<![0-9])(?:(20[0-9]{2})[-_./ ]?(0[1-9]|1[0-2])|(0[1-9]|1[0-2])[-_./ ](20[0-9]{2}))(?![0-9])"
 )
 _YEAR = re.compile(r"(?<![0-9])(20[0-9]{2})(?![0-9])")
-_SHORT = re.compile(r"([^\W\d_]+)\.?[\s._'\u2019-]*([0-9]{2})(?![0-9])")
+# A word from its first letter on: from each of its letters, a long one would take forever.
+_SHORT = re.compile(r"(?<![^\W\d_])([^\W\d_]+)\.?[\s._'\u2019-]*([0-9]{2})(?![0-9])")
 
 
 @lru_cache
