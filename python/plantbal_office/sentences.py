@@ -16,7 +16,8 @@ from django.utils.translation import gettext as _
 from plantbal.book.changes import Change
 from plantbal.book.ledger import BookFact
 from plantbal.faults import Fault, Place, Refusal
-from plantbal.sentence import ENGLISH, Language, said_in
+from plantbal.sentence import English, Language, said_in
+from plantbal_office.remedies import desk_form
 
 
 def is_english() -> bool:
@@ -33,12 +34,23 @@ def figure(text: str) -> str:
     return "".join(marks.get(each, each) for each in text)
 
 
+class _DeskEnglish(English):
+    """English, with what the desk offers in place of the options of commands."""
+
+    def form(self, english: str) -> str:
+        """Return the form of a sentence."""
+        return desk_form(english)
+
+
+ENGLISH: Language = _DeskEnglish()
+
+
 class _Spoken:
     """The person's language: its forms are the catalogue's, its figures and days Django's."""
 
     def form(self, english: str) -> str:
         """Return the form of a sentence."""
-        return gettext(english)
+        return gettext(desk_form(english))
 
     def figure(self, text: str) -> str:
         """Return a figure."""
@@ -59,7 +71,7 @@ def spoken() -> Language:
 
 def said(text: str) -> str:
     """Return what the library says in the person's language."""
-    return text if is_english() else said_in(SPOKEN, text)
+    return said_in(spoken(), text)
 
 
 def place_said(place: Place) -> str:

@@ -11,7 +11,7 @@ from plantbal.sentence import Sentence
 from plantbal.workbook.causes import SheetCause
 from plantbal.workbook.cellfaults import cell_fault
 from plantbal.workbook.locales import day_order, month_names
-from plantbal.workbook.remedies import CellRemedy
+from plantbal.workbook.remedies import CellRemedy, OptionRemedy
 from plantbal.workbook.sheets import Cell, NoValue
 
 _DAY = re.compile(r"([0-9]{1,4})([./-])\s?([0-9]{1,2})\2\s?([0-9]{1,4})\.?")
@@ -97,7 +97,7 @@ def _of_text(cell: Cell, text: str, locale: str, head: str) -> datetime.date | N
         return _date(int(first), int(second), int(third))
     if part != "." and len(first) == len(third) == 2 and not locale:
         if _date(2000 + int(first), int(second), int(third)):
-            remedy = "write the year with four digits, or use --locale"
+            remedy = OptionRemedy.FOUR_DIGITS()
             what = SheetCause.YEAR_FIRST_OR_LAST(text=text)
             raise cell_fault(cell, what, remedy, head)
     order = _order(cell, text, part, (int(first), int(second)), locale, head)
@@ -122,8 +122,7 @@ def _order(
             return order
     elif max(numbers) > 12:
         return "dmy" if numbers[0] > 12 else "mdy"
-    remedy = "use --locale en_GB if the day comes first, --locale en_US if the month does"
-    raise cell_fault(cell, SheetCause.TWO_DAYS(text=text), remedy, head)
+    raise cell_fault(cell, SheetCause.TWO_DAYS(text=text), OptionRemedy.DAY_OR_MONTH(), head)
 
 
 def _date(year: int, month: int, day: int) -> datetime.date | None:

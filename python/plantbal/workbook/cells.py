@@ -10,13 +10,13 @@ from decimal import Context, Decimal, Inexact
 from fractions import Fraction
 
 from plantbal.causes import Case, CausedFault
-from plantbal.sentence import Sentence
+from plantbal.sentence import Phrase, Sentence
 from plantbal.workbook.causes import SheetCause
 from plantbal.workbook.celldays import day_of
 from plantbal.workbook.cellfaults import cell_fault
 from plantbal.workbook.figures import plain_number, without_spaces
 from plantbal.workbook.locales import symbols
-from plantbal.workbook.remedies import CellRemedy
+from plantbal.workbook.remedies import CellRemedy, OptionRemedy
 from plantbal.workbook.sheets import Cell, InThousands, NoValue, Percent, Shown
 from plantbal.workbook.units import (
     AMOUNTS,
@@ -41,7 +41,6 @@ _GRADE = re.compile(r"(.*?[0-9])\s*(%|[^\W\d_]+(?:/[^\W\d_]+)?)")
 EXACT = Context(prec=400, traps=[Inexact])
 # The locales whose marks are recognised in another's figures, and what their marks are called.
 MARKS = {"en": "a decimal point", "de": "a decimal comma"}
-OWN_LOCALE = ", and --locale is {locale}"
 # Tons that aren't of 1,000 kg, or may not be.
 OTHER_TONS = ("ton", "tons", "short ton", "short tons", "st", "lt")
 # In kg/m3 the least and the greatest density that is written without its unit.
@@ -176,13 +175,13 @@ class Reader:
         if not own_locale and _EITHER.fullmatch(plain):
             return (
                 SheetCause.POINT_OR_THOUSANDS(text=text),
-                "use --locale en, --locale de or another",
+                OptionRemedy.NAME_LOCALE(),
             )
         for locale, mark in MARKS.items():
             point, group = symbols(locale)
             if plain_number(plain, point, "" if powers else group) is not None:
-                own = OWN_LOCALE.format(locale=own_locale) if own_locale else ""
-                what = SheetCause.MARK_OF_OTHER_LOCALE(text=text, mark=mark, locale=own)
+                own = OptionRemedy.OWN_LOCALE(locale=own_locale) if own_locale else ""
+                what = SheetCause.MARK_OF_OTHER_LOCALE(text=text, mark=Phrase(mark), locale=own)
                 return what, CellRemedy.USE_LOCALE(locale=locale)
         what = SheetCause.NO_FIGURE(text=text)
         if of_rate(text.rpartition(" ")[2]):

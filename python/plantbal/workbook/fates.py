@@ -18,6 +18,7 @@ from plantbal.faults import Fault, InputFault, Place
 from plantbal.sentence import Sentence, phrase
 from plantbal.workbook.causes import SheetCause
 from plantbal.workbook.cells import Reader
+from plantbal.workbook.remedies import OptionRemedy
 from plantbal.workbook.sheets import Cell, NoValue, Sheet
 from plantbal.workbook.units import UNITS, unit_of
 
@@ -188,11 +189,7 @@ def unread_column(
     what = Sentence("units" if len(units) >= len(figures) else "figures")
     first = next(iter(units if len(units) >= len(figures) else figures), head)
     if 2 * (len(units) + len(figures)) > len(cells) and head.text.casefold() not in _REMARKS:
-        remedy = (
-            Sentence("use --skip {text!r} to leave the column out", text=head.text)
-            if head.text
-            else ""
-        )
+        remedy = OptionRemedy.LEAVE_OUT(text=head.text).sentence if head.text else ""
         other = "give it the head of a column that is read"
         remedy = (
             Sentence("{other}, or {remedy}", other=phrase(other), remedy=phrase(remedy))

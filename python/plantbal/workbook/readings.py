@@ -18,6 +18,7 @@ from plantbal.workbook.daily import Daily, long_by_day, wide_by_day
 from plantbal.workbook.fates import Fate, is_unit
 from plantbal.workbook.hourheads import HoursAcross, hour_heads
 from plantbal.workbook.plant import PlantReader, StreamRow
+from plantbal.workbook.remedies import OptionRemedy
 from plantbal.workbook.shapeparts import HEADS_WITHIN, cell_at, has_figure
 from plantbal.workbook.sheets import Cell, Sheet
 from plantbal.workbook.summed import SummedCell, SummedFact, summed_fact
@@ -225,11 +226,8 @@ class Readings:
             if stream is None:
                 if not known and cell.text not in self.plant.bad:
                     fault = self.tables.faults[-1]
-                    fault.remedy = Sentence(
-                        "{remedy}, or use --skip {text!r} to leave the column out",
-                        remedy=phrase(fault.remedy),
-                        text=cell.text,
-                    )
+                    words = {"remedy": phrase(fault.remedy), "text": cell.text}
+                    fault.remedy = OptionRemedy.OR_LEAVE_OUT(**words).sentence
             elif stream.name in first:
                 other = str(first[stream.name].place()).rstrip(":")
                 self.tables.fault(cell, SheetCause.COLUMN_TWICE(stream=stream.said, other=other))
@@ -419,11 +417,8 @@ class Readings:
         if _run(turned) and not _run(own):
             own_locale = self.reader.locale
             what = SheetCause.DAYS_OUT_OF_ORDER(locale=own_locale, text=texts[0].text)
-            self.tables.fault(
-                texts[0],
-                what,
-                Sentence("read as {other} they do: use --locale {other}", other=other),
-            )
+            remedy = OptionRemedy.READ_AS(other=other).sentence
+            self.tables.fault(texts[0], what, remedy)
 
 
 def _long_columns(heads: list[Cell]) -> dict[str, int]:

@@ -29,3 +29,16 @@ class CellRemedy(Causes):
     DAY_ALONE = "a figure is a day's: add the hours of a day up, and write the day alone"
     MONTH_FIRST = "--locale {locale} has the month first: use --locale en_GB"
     DAY_FIRST = "--locale {locale} has the day first: write it as 2024-06-30"
+
+
+@unique
+class OptionRemedy(Causes):
+    """What names an option of a command, beside the remedies of cells; who has no commands says it otherwise."""
+
+    OWN_LOCALE = ", and --locale is {locale}"
+    NAME_LOCALE = "use --locale en, --locale de or another"
+    FOUR_DIGITS = "write the year with four digits, or use --locale"
+    DAY_OR_MONTH = "use --locale en_GB if the day comes first, --locale en_US if the month does"
+    READ_AS = "read as {other} they do: use --locale {other}"
+    LEAVE_OUT = "use --skip {text!r} to leave the column out"
+    OR_LEAVE_OUT = "{remedy}, or use --skip {text!r} to leave the column out"

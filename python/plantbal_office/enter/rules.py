@@ -30,7 +30,7 @@ from plantbal.model.words import FORM_OF_NOTHING, FORM_OF_TEXT, refusal_of
 from plantbal.schema import schema
 from plantbal.workbook import celldays, cells, locales, units
 from plantbal.workbook.causes import SheetCause
-from plantbal.workbook.remedies import CellRemedy
+from plantbal.workbook.remedies import CellRemedy, OptionRemedy
 from plantbal.workbook.sheets import EPOCH
 from plantbal_office.causes import GridCause, GridRemedy
 from plantbal_office.enter.judging import ENOUGH, FAR, WHY, free_id, typed_row
@@ -325,4 +325,6 @@ def _reading(locale: str) -> dict[str, Any]:
 def _words() -> dict[str, str]:
     """Return the sentences of causes and remedies by their names."""
     enums = (*_SHEET, *GridCause, *CellRemedy, *GridRemedy)
-    return {each.name: said(str(each.value)) for each in enums} | {"OWN_LOCALE": cells.OWN_LOCALE}
+    return {each.name: said(str(each.value)) for each in enums} | {
+        "OWN_LOCALE": said(str(OptionRemedy.OWN_LOCALE.value))
+    }

@@ -19,6 +19,7 @@ from plantbal.page.verdict import STOPS
 from plantbal.workbook.mapping.words import LANGUAGES
 from plantbal.workbook.sheetkinds import SHEETS
 from plantbal_office.causes import GridCause, GridRemedy
+from plantbal_office.remedies import AT_DESK
 
 HOME = Path(__file__).parents[2]
 # What is made of forms, and in which places of its call they are.
@@ -116,6 +117,7 @@ def of_tables() -> Iterator[str]:
     yield from (*lacking._MEANS.values(), *STOPS.values())
     yield from (kind.about for kind in SHEETS.values())
     yield from LANGUAGES.values()
+    yield from AT_DESK.values()
 
 
 def shown_forms() -> set[str]:

@@ -13,6 +13,9 @@ from babel.messages.pofile import read_po
 from office.shown_forms import HOME, fields, shown_forms
 from office.site_of import TOP, Site
 
+from plantbal.workbook.remedies import CellRemedy, OptionRemedy
+from plantbal_office.remedies import AT_DESK
+
 LOCALE = HOME / "plantbal_office" / "locale"
 
 
@@ -106,6 +109,29 @@ def test_faults(site: Site) -> None:
     for word in ("3 Fehler, und nichts", "'zwoelf' ist keine Zahl", "'2024-13-01' ist kein Tag"):
         assert word in said, said[:1500]
     assert not ENGLISH.search(said.split("Nichts ist gebucht")[1]), said
+
+
+OPTION = re.compile(r"--[a-z]")
+
+
+def test_no_options() -> None:
+    """What names an option of a command has another form at the desk, and none of these does."""
+    named = {each for each in (*CellRemedy, *OptionRemedy) if OPTION.search(str(each.value))}
+    assert named <= set(AT_DESK)
+    assert not [text for text in AT_DESK.values() if OPTION.search(text)]
+
+
+@pytest.mark.parametrize("language", ("en", "de", "es"))
+def test_faults_without_options(site: Site, language: str) -> None:
+    """A column too many, a word for nothing, another's decimal mark: what to do is what the desk offers."""
+    spoken(site, language)
+    text = 'day,FI-302,FI-999,Summe\n2024-05-01,n.v.,1,3\n2024-05-02,"11,5",2,4\n03/04/05,1,2,5\n'
+    file = io.BytesIO(text.encode())
+    file.name = "readings.csv"
+    data = {**site.fields("enter/"), "locale": "en_GB", "workbook": [file]}
+    answer = site.client.post(f"/p/{site.plant.slug}/enter/", data, follow=True)
+    assert answer.content.count(b'class="wrong"') >= 3
+    assert not OPTION.search(text_of(answer)), text_of(answer)
 
 
 # What a sheet may have, by the names that the workbook's own columns have for it.
