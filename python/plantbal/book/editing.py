@@ -17,6 +17,7 @@ from plantbal.book.said import closed_in, touched_by
 from plantbal.book.store import Act, Action, Store
 from plantbal.book.years import Years
 from plantbal.faults import Fault, Refusal
+from plantbal.sentence import Sentence
 from plantbal.workbook.base import PeriodDays, share_at
 from plantbal.workbook.cells import Reader
 from plantbal.workbook.locales import check_locale
@@ -75,7 +76,7 @@ class Other:
             unit = meter.unit or "t"
             if reader.is_wet(cell_of(self.amount), unit):
                 raise Fault(
-                    f"{self.amount} is wet, and what is booked is dry",
+                    Sentence("{amount} is wet, and what is booked is dry", amount=self.amount),
                     text=self.amount,
                     remedy="give the dry amount in tonnes, such as '1104.2 t', or add the workbook "
                     "with its moisture again",
@@ -87,7 +88,7 @@ class Other:
             error = reader.error(cell_of(self.error), density, level=fact.kind == "dip")
         if error is None:
             raise Fault(
-                f"no error of {meter.name} is known",
+                Sentence("no error of {name} is known", name=meter.name),
                 remedy="give it: --error '0.2 t'; or write it into meters.csv",
             )
         variance = error.variance(0 if fact.kind == "dip" else values[0], slope)
@@ -123,7 +124,7 @@ def amend(
         fact, places = named.fact, named.places
         if named.struck:
             remedy = "add it anew by a workbook: plantbal-desk book add"
-            raise Fault(f"{fact.id} was struck", text=name, remedy=remedy)
+            raise Fault(Sentence("{id} was struck", id=fact.id), text=name, remedy=remedy)
         tanks = {tank.name: tank for tank in plant_with_meters(places[-1][0].plant, meters)[1]}
         meter = meters.get(fact.place, Meter(fact.place))
         is_volume = fact.kind != "dip" and other.is_volume(meter)
@@ -170,10 +171,14 @@ def undo(book: Store, name: str, day: datetime.date | None, *, why: str, who: st
         places = [(ledger, there) for ledger, there in named.places if there.slot == fact.slot]
         for closed in closed_in(places):
             remedy = "amend it instead, or add it by a workbook: the difference is then handed over"
-            raise Fault(f"{closed} is closed", text=name, remedy=remedy)
+            raise Fault(Sentence("{closed} is closed", closed=closed), text=name, remedy=remedy)
         changed = _restored(places) if named.struck else _reverted(places, why)
         if not changed:
-            raise Fault(f"{fact.id} wasn't changed", text=name, remedy="strike it if it is wrong")
+            raise Fault(
+                Sentence("{id} wasn't changed", id=fact.id),
+                text=name,
+                remedy="strike it if it is wrong",
+            )
         action = Action(Act.AMEND, changed[-1].id, changed[-1].said(), why, who)
         for ledger in {ledger.name: ledger for ledger, _ in places}.values():
             action.add(ledger)

@@ -24,6 +24,7 @@ from plantbal.gates.look import Look, LookFacts
 from plantbal.gates.readings import odd_readings
 from plantbal.model.ledger import View, view_of
 from plantbal.model.state import State
+from plantbal.sentence import Sentence
 
 # Gates whose readings may be those of a dead meter.
 _DEAD = (Gate.ZERO, Gate.FROZEN)
@@ -70,9 +71,16 @@ def _stream_of(view: View, meters: dict[str, Meter], name: str) -> str:
     found = tagged.get(name, name)
     known = {each.arc.name for each in view.streams if each.kind == "metered"}
     if found not in known:
-        remedy = f"the metered streams are {', '.join(sorted(known)) or 'none'}"
+        remedy = Sentence(
+            "the metered streams are {names}", names=", ".join(sorted(known)) or "none"
+        )
         raise Fault(
-            f"{name} isn't a metered stream in service in {view.period.name}", remedy=remedy
+            Sentence(
+                "{name} isn't a metered stream in service in {period}",
+                name=name,
+                period=view.period.name,
+            ),
+            remedy=remedy,
         )
     return found
 

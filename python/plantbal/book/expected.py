@@ -7,6 +7,7 @@ from dataclasses import dataclass
 
 from plantbal.book.journal import JournalLine
 from plantbal.faults import Fault
+from plantbal.sentence import Sentence, phrase
 
 # How many actions of others are said.
 _MOST = 3
@@ -56,7 +57,8 @@ class Moved(Fault):
         said = "; ".join(line.said() for line in since[:_MOST])
         said += f"; and {len(since) - _MOST:,} more" if len(since) > _MOST else ""
         what = "the book was changed since you were shown it, and nothing was booked"
-        super().__init__(f"{what}: {said}" if said else what, remedy="look at it again")
+        done = Sentence("{what}: {done}", what=phrase(what), done=said) if said else what
+        super().__init__(done, remedy="look at it again")
         self.since = tuple(since)
 
 

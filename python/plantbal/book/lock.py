@@ -17,6 +17,7 @@ from typing import IO
 
 from plantbal.faults import Hindered, InputFault, Place, unread
 from plantbal.files import unwritten
+from plantbal.sentence import Sentence
 
 _PAUSE = 0.05
 # A pipe is opened without waiting for its other end, and a link isn't followed.
@@ -96,7 +97,7 @@ def locked(path: Path, seconds: float, shared: bool = False) -> Iterator[None]:
         while not _taken(file, shared):
             if time.monotonic() > end:
                 raise Hindered(
-                    f"another command is at work in the book {path.parent}",
+                    Sentence("another command is at work in the book {parent}", parent=path.parent),
                     remedy="wait until it has ended, and type this again",
                 )
             time.sleep(_PAUSE)

@@ -10,6 +10,7 @@ from plantbal.book.ledger import BookFact, YearLedger
 from plantbal.book.meters import Meter
 from plantbal.book.years import Years
 from plantbal.faults import Fault, Place
+from plantbal.sentence import Joined, Sentence
 from plantbal.workbook.cells import Reader
 from plantbal.workbook.locales import check_locale
 from plantbal.workbook.sheets import Cell, Sheet
@@ -118,15 +119,17 @@ class Names:
     def _none(self, name: str, day: datetime.date | None) -> Fault:
         """Return what is to be said of a fact that isn't there."""
         if day is None:
-            what = f"there is no fact {name} in this book"
+            what = Sentence("there is no fact {name} in this book", name=name)
             remedy = "a reading and a dip are named by tag and day: FI-302 2024-04-18"
             return Fault(what, text=name, remedy=remedy)
         last = self.years.last.session
         if name in self.tags or name in last.streams or name in last.nodes:
-            what = f"{name} has no figure of {day} in this book"
+            what = Sentence("{name} has no figure of {day} in this book", name=name, day=day)
             return Fault(what, text=str(day), remedy="add it by a workbook: plantbal-desk book add")
         return Fault(
-            f"there is no tag, stream or tank {name}",
+            Sentence("there is no tag, stream or tank {name}", name=name),
             text=name,
-            remedy=f"the tags are {', '.join(self.tags)}" if self.tags else "see plant.csv",
+            remedy=Sentence("the tags are {tags}", tags=Joined(", ", self.tags))
+            if self.tags
+            else "see plant.csv",
         )

@@ -49,6 +49,8 @@ WHOLE = (
     *("workbook/packed", "workbook/periods", "workbook/plant", "workbook/readings"),
     *("workbook/settings", "workbook/shapeparts", "workbook/shapes", "workbook/tables"),
     *("workbook/tickets", "workbook/wide"),
+    *("book/lock", "book/expected", "book/editing", "book/estimating", "book/naming"),
+    *("book/approval/guard", "book/approval/submitting", "book/approval/writing"),
     *(
         f"workbook/mapping/{name}"
         for name in (

@@ -19,6 +19,7 @@ from plantbal.book.chain import state_of
 from plantbal.book.forms import ACCOUNTS, APPROVALS, JOURNAL, RULES, SIGNERS, REVOKED
 from plantbal.book.journal import Act
 from plantbal.faults import Fault
+from plantbal.sentence import Sentence
 
 if TYPE_CHECKING:
     from plantbal.book.store import Action, Store
@@ -53,12 +54,18 @@ def pass_or_submit(book: Store, action: Action) -> None:
     if action.act is Act.CLOSE:
         said = ", ".join(wants)
         raise Fault(
-            f"by the rules of this book, closing {action.of} needs an approval ({said})",
-            remedy=f"plantbal-desk book submit {action.of}",
+            Sentence(
+                "by the rules of this book, closing {of} needs an approval ({said})",
+                of=action.of,
+                said=said,
+            ),
+            remedy=Sentence("plantbal-desk book submit {of}", of=action.of),
         )
     if action.early:
         remedy = "close it first: what is open isn't handed over"
-        raise Fault(f"by the rules of this book {action.of} isn't posted yet", remedy=remedy)
+        raise Fault(
+            Sentence("by the rules of this book {of} isn't posted yet", of=action.of), remedy=remedy
+        )
     periods = [name for ledger in action.ledgers for name in reopened(ledger)]
     periods += [action.of] if action.act is Act.POSTED else []
     if book.withheld is Withheld.TO_SIGN:
@@ -99,6 +106,8 @@ def _check_acceptable(name: str) -> None:
     """
     if name in (JOURNAL, RULES, SIGNERS, REVOKED) or name.startswith(f"{APPROVALS}/"):
         raise Fault(
-            f"{name} isn't taken as it is in a book with rules: approvals rest on it",
+            Sentence(
+                "{name} isn't taken as it is in a book with rules: approvals rest on it", name=name
+            ),
             remedy="put it back as it was, from a backup",
         )

@@ -22,6 +22,7 @@ from plantbal.book.journal import Act, Kept
 from plantbal.faults import Fault
 from plantbal.gates import Gate
 from plantbal.program import RunSettings
+from plantbal.sentence import Joined, Sentence
 
 if TYPE_CHECKING:
     from plantbal.book.store import Action, Head, Store
@@ -46,9 +47,16 @@ class Submitted(Fault):
     def __init__(self, found: Submission) -> None:
         said = f"{found.act} {found.of}".strip()
         super().__init__(
-            f"{said} waits for an approval by somebody else ({', '.join(found.wants)})",
-            remedy=f"they look at it by plantbal-desk book submitted {found.head.number}, and "
-            f"approve it by plantbal-desk book approve --head '{found.head}'",
+            Sentence(
+                "{said} waits for an approval by somebody else ({wants})",
+                said=said,
+                wants=Joined(", ", found.wants),
+            ),
+            remedy=Sentence(
+                "they look at it by plantbal-desk book submitted {number}, and approve it by plantbal-desk book approve --head '{head}'",
+                number=found.head.number,
+                head=found.head,
+            ),
         )
         self.head = found.head
         self.wants = found.wants
@@ -168,8 +176,15 @@ def _asked(
         raise Fault("this book has no rules, so nothing waits for an approval", remedy=remedy)
     for each in waiting_in(book):
         if (each.proposal.act, each.proposal.of) == (action.act, action.of):
-            remedy = f"plantbal-desk book reject --head '{each.head}' --why TEXT takes it back"
-            what = f"{action.act} {action.of} waits already, as action {each.line.number}"
+            remedy = Sentence(
+                "plantbal-desk book reject --head '{head}' --why TEXT takes it back", head=each.head
+            )
+            what = Sentence(
+                "{act} {of} waits already, as action {number}",
+                act=action.act,
+                of=action.of,
+                number=each.line.number,
+            )
             raise Fault(what, remedy=remedy)
     proposal = _proposal(book, action, wants, periods, reasons or {}, settings)
     json_file = approval_file(book.head.number + 1, "json")

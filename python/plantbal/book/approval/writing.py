@@ -13,6 +13,7 @@ from plantbal.book.forms import approval_file
 from plantbal.book.journal import Kept, now
 from plantbal.book.owners import user_said
 from plantbal.faults import Fault
+from plantbal.sentence import Joined, Sentence
 from plantbal.signing.signatures import BOOK, sign, verified
 from plantbal.signing.stamps import stamp
 
@@ -71,7 +72,7 @@ def written_for(
     if signature:
         found = verified(record.text.encode(), signature, keys_of(book), BOOK, record.time)
         if not found.name:
-            raise Fault(f"nothing is signed: {found.said()}", remedy=_KEY)
+            raise Fault(Sentence("nothing is signed: {found}", found=found.said()), remedy=_KEY)
         signed = found.name
     _check_person(record, rules, what, signed)
     files = {approval_file(record.number, "txt"): record.text}
@@ -110,18 +111,20 @@ def _check_person(record: ApprovalRecord, rules: Rules, what: May, signed: str) 
     """
     if signed and record.who and signed != record.who:
         raise Fault(
-            f"{record.who} is at work here, and the key is {signed}'s",
+            Sentence(
+                "{who} is at work here, and the key is {signed}'s", who=record.who, signed=signed
+            ),
             remedy="sign with your own key, at your own login",
         )
     name = signed or record.who
     if rules.people and not name:
         raise Fault(
-            f"the user {record.user} belongs to nobody in rules.toml",
+            Sentence("the user {user} belongs to nobody in rules.toml", user=record.user),
             remedy="let somebody submit rules that have a person with this user",
         )
     if not rules.may(name, what):
         able = [each.name for each in rules.people.values() if what in each.may]
         raise Fault(
-            f"by the rules of this book {name} may not {what}",
-            remedy=f"these may: {', '.join(able)}",
+            Sentence("by the rules of this book {name} may not {what}", name=name, what=what),
+            remedy=Sentence("these may: {able}", able=Joined(", ", able)),
         )
