@@ -130,13 +130,13 @@ class Columns:
         """Return what a column of a tank has, `level` and the like, and why; `?` if it isn't told."""
         rest = without_name(column.name, tank) if tag_in(column.head, (tank,)) else column.name
         if column.unit in TEMPERATURES:
-            return "temperature", why.in_unit(column.unit)
+            return "temperature", why.figures_in(column.unit)
         found = {meaning.of for meaning in column_meanings(rest)} & {*OF_TANKS} if rest else set()
         if len(found) == 1:
             return found.pop(), Sentence("{rest!r} says so", rest=rest)
         others = [each for each in self.profile.columns if self._tank(each) == tank]
         if column.unit in DENSITIES:
-            return "density", why.in_unit(column.unit)
+            return "density", why.figures_in(column.unit)
         if len(others) == 1 and column.unit not in VOLUMES:
             return "level", "it is the only column of the tank"
         return OPEN, why.which_of_tank(tank, len(others), OF_TANKS)
@@ -367,7 +367,7 @@ class Columns:
             if not is_level and (of in ("level", OPEN) or column.unit in LENGTHS):
                 return False
             columns[column.key] = f"{tank} {of}"
-            self.evidence[path] = why.of_tank(tank, said)
+            self.evidence[path] = why.has_tank(tank, said)
             return True
         after = self.profile.columns[self.profile.columns.index(column) + 1 :][:1]
         if not column.has_days or not any(map(own._tank, after)):
@@ -381,7 +381,7 @@ class Columns:
         to = OPEN if of == OPEN else tank if of == "level" else f"{tank} {of}"
         if to != column.head:
             columns[column.key] = to
-            self.evidence["columns", column.key] = why.of_tank(tank, said)
+            self.evidence["columns", column.key] = why.has_tank(tank, said)
 
     # ---- units
 

@@ -25,7 +25,7 @@ def counter_asked(said: str) -> Sentence:
     return Sentence(form, why=why)
 
 
-def of_tank(tank: str, said: str) -> Sentence:
+def has_tank(tank: str, said: str) -> Sentence:
     """Return why a column is one of a tank."""
     return Sentence("{tank} is in its head or over it; {said}", tank=tank, said=phrase(said))
 
@@ -36,7 +36,7 @@ def which_of_tank(tank: str, count: int, choices: Iterable[str]) -> Sentence:
     return Sentence(form, tank=tank, count=count, choices=Joined(", ", choices))
 
 
-def in_unit(unit: str) -> Sentence:
+def figures_in(unit: str) -> Sentence:
     """Return why figures of a tank aren't levels."""
     return Sentence("its figures are in {unit}", unit=unit)
 
