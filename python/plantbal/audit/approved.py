@@ -265,6 +265,7 @@ def approvals_held(
             options.signers is not None,
             given_text(options.authority),
             manifest.approvals[FILES],
+            options.book is not None,
         )
         for kind, said in judged.held():
             yield kind, f"{path}: {said}"
@@ -288,6 +289,8 @@ class JudgedApprovals:
         The certificate of the time stamps' authority, if they are to be judged.
     files : dict
         The files that the manifest has.
+    has_book : bool
+        Whether the session's rows are compared with those of the book, which knows who approved each.
     """
 
     found: BundleApprovals
@@ -297,6 +300,7 @@ class JudgedApprovals:
     is_given: bool
     authority: str = ""
     files: Mapping[str, str] = field(default_factory=dict)
+    has_book: bool = False
 
     def held(self) -> Iterator[tuple[SentenceKind, str]]:
         """Give what is found: ``good``, ``note`` or ``wrong``, and a sentence."""
@@ -420,7 +424,8 @@ class JudgedApprovals:
             period = self.found.close.line.of
             changed = changed_since(SESSION, self.session, kept.size or 0, period)
             if changed:
-                yield SentenceKind.WRONG, f"{what}, and {period} isn't what was approved: {changed}"
+                kind = SentenceKind.NOTE if self.has_book else SentenceKind.WRONG
+                yield kind, f"{what}, and {period} isn't what was approved: {changed}"
             else:
                 yield SentenceKind.NOTE, f"{what}: --book says whether the book has them"
 

@@ -21,7 +21,7 @@ _NAMED = re.compile(r"([0-9]{1,2})\.?[ -]([^\W\d]+)\.?[ -]([0-9]{4})")
 SERIALS = 20_000, 80_000
 
 
-def day_of(cell: Cell, locale: str, head: str = "") -> datetime.date:
+def day_in_cell(cell: Cell, locale: str, head: str = "") -> datetime.date:
     """Return the day of a cell.
 
     Parameters

@@ -12,7 +12,7 @@ from fractions import Fraction
 from plantbal.causes import Case, CausedFault
 from plantbal.sentence import Phrase, Sentence
 from plantbal.workbook.causes import SheetCause
-from plantbal.workbook.celldays import day_of
+from plantbal.workbook.celldays import day_in_cell
 from plantbal.workbook.cellfaults import cell_fault
 from plantbal.workbook.figures import plain_number, without_spaces
 from plantbal.workbook.locales import symbols
@@ -192,7 +192,7 @@ class Reader:
 
     def day(self, cell: Cell, head: str = "") -> datetime.date:
         """Return the day of a cell."""
-        return day_of(cell, self.locale_of(cell), head)
+        return day_in_cell(cell, self.locale_of(cell), head)
 
     # ---- amounts
 
