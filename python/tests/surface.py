@@ -34,7 +34,7 @@ def name_of(found: Any) -> str:
 def hints_of(found: Any) -> dict[str, Any]:
     """What a class or a function is annotated with; names for checkers of types alone count too."""
     own = {"pandas": pandas, "Any": Any}
-    for module in ("book.library", "model.state", "session", "report.output"):
+    for module in ("book.library", "model.state", "session", "report.output", "workbook.hourheads"):
         there = vars(importlib.import_module(f"plantbal.{module}"))
         own |= {name: each for name, each in there.items() if isinstance(each, type)}
     return typing.get_type_hints(found, localns=own)
