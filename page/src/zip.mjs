@@ -21,7 +21,7 @@ export class ZipFault extends Error {
   }
 }
 
-const MOST_BYTES = Object.freeze({ ...FILES, ...CARRIED });
+const MOST_OF_FILE = Object.freeze({ ...FILES, ...CARRIED });
 const HEAD = 30, ENTRY = 46, END = 22;
 const STORED = 0, DEFLATED = 8, DESCRIBED = 0x0008, ALLOWED_FLAGS = 0x080e; // sizes after the bytes; speed of packing, UTF-8
 const RENAMING = [0x0001, 0x7075, 0x6375]; // extra fields that give a file another size, name or comment
@@ -111,7 +111,7 @@ function renamesNothing(extra) {
 }
 
 async function content(packed, entry) {
-  const most = MOST_BYTES[entry.name];
+  const most = MOST_OF_FILE[entry.name];
   if (entry.size > most) throw new ZipFault("zip_large", { name: entry.name, most });
   let found;
   if (entry.method === STORED) found = packed.slice();
