@@ -25,7 +25,8 @@ from sessions import session_of
 from plantbal.model.asking import History
 from plantbal.model.causes import Refused
 from plantbal.model.facts import Edit
-from plantbal.model.file import Coded, Rows, Step, steps
+from plantbal.model.file import Rows, Step, steps
+from plantbal.model.refusals import Coded
 from plantbal.model.ledger import Ledger
 from plantbal.model.state import State
 

@@ -16,9 +16,10 @@ from conftest import Desk, text_of
 
 from plantbal.audit import linked
 from plantbal.audit.linked import bundle_manifest
-from plantbal.book.chain import Chain, checks_of, checks_text
+from plantbal.book.chain import Chain, FileCause, checks_of, checks_text
 from plantbal.book.journal import HEAD_TEXT, Act, JournalLine, Kept, chained, read_journal
 from plantbal.book.store import Action, Store
+from plantbal.causes import CausedFault
 from plantbal.faults import InputFault
 
 __all__ = ["fixture_book"]
@@ -375,9 +376,10 @@ def test_a_mapping_that_was_put_in_is_taken_for_good(
     put("mapping.toml", "1200", "1300")(mill)
     assert "mapping.toml: it isn't what action" in book("status").err
     kept = Store(mill)
-    with pytest.raises(InputFault, match="it isn't overwritten"), kept.opened(tested=False):
+    with pytest.raises(CausedFault) as fault, kept.opened(tested=False):
         (mill / "accounts.csv").write_text("mine\n", encoding="utf-8")
         kept.do(Action(Act.REPORT, "2024-05", written={"accounts.csv": "x\n"}))
+    assert fault.value.case.cause is FileCause.NOT_WRITTEN_HERE
 
 
 def test_a_file_that_is_changed_meanwhile_is_not_used(mill: Path) -> None:
@@ -388,10 +390,12 @@ def test_a_file_that_is_changed_meanwhile_is_not_used(mill: Path) -> None:
         kept.do(Action(Act.REPORT, "2024-04", written={"reports/2024-04.csv": "x\n"}))
         assert (kept.text("2024.csv"), kept.text("reports/2024-04.csv")) == (before, "x\n")
         put("2024.csv", "02,FEED,2024-04-02,12", "02,FEED,2024-04-02,13")(mill)
-        with pytest.raises(InputFault, match="while this command was at work"):
+        with pytest.raises(CausedFault) as read:
             kept.text("2024.csv")
-        with pytest.raises(InputFault, match="while this command was at work"):
+        with pytest.raises(CausedFault) as done:
             kept.do(Action(Act.REPORT, "2024-04", seen=["2024.csv"]))
+    causes = {read.value.case.cause, done.value.case.cause}
+    assert causes == {FileCause.CHANGED_MEANWHILE}
 
 
 def test_what_stood_there(mill: Path, book: Type) -> None:

@@ -11,6 +11,7 @@ from conftest import Desk, text_of
 
 from plantbal import Book
 from plantbal.book.posting import NotPosted
+from plantbal.gates import Gate
 
 __all__ = ["fixture_book"]
 
@@ -138,8 +139,9 @@ def test_a_report_that_is_rejected_is_not_posted(book: Type, tmp_path: Path) -> 
         assert said.status == 1 and "isn't posted: 2024-04 is rejected by the" in said.err, said
         words = "plantbal-desk book posted 2024-04 --anyway 'rejected=REASON'"
         assert said.err.endswith(f"posted all the same: {words}\n"), said
-    with pytest.raises(NotPosted, match="rejected"):
+    with pytest.raises(NotPosted) as fault:
         Book(tmp_path / "mill").handed("2024-04")
+    assert fault.value.unanswered == (Gate.REJECTED,)
     said = book("posted", "2024-04", "--anyway", "rejected=the meter is out", "--why", "late")
     assert said.status == 0, said
     assert Book(tmp_path / "mill").handed("2024-04").posting

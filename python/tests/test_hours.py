@@ -28,8 +28,7 @@ from plantbal.audit.bundle import (
     unpacked,
 )
 from plantbal.audit.said import SentenceKind
-from plantbal.audit.sums import summed_held
-from plantbal.faults import InputFault
+from plantbal.audit.sums import NotSummed, summed_held
 from plantbal.model.facts import Fact
 from plantbal.page.summed import summed_of_book
 from plantbal.workbook.sheets import Cell, Sheet
@@ -358,7 +357,7 @@ def test_a_statement_shows_them(
         assert found.wrong == what and not summed_of_book(str(tmp_path), [fact._replace(line=7)])
     for text in ("year\n", text_of(kept) + "2024,x\n", text_of(kept).replace(",23,", ",x,")):
         (tmp_path / "summed.csv").write_text(text, encoding="utf-8")
-        with pytest.raises(InputFault, match="this isn't a file of how readings were added up"):
+        with pytest.raises(NotSummed):
             summed_of_book(str(tmp_path), [fact])
 
 

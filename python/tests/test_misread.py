@@ -13,9 +13,10 @@ from test_conversion import Book, xlsx_of
 from test_ods import ods, row
 
 from plantbal import convert
-from plantbal.faults import InputFault
+from plantbal.causes import CausedFault
 from plantbal.workbook.conversion import Conversion
 from plantbal.workbook.sheets import InThousands, Percent, Shown, read_workbook
+from plantbal.workbook.xlsxparts import XlsxCause
 
 KEPT = ("streams", "tanks", "straps")
 SHEETS: Sheets = {name: PLANT[name] for name in KEPT}
@@ -141,31 +142,31 @@ def parts(change: Callable[[dict[str, bytes]], object]) -> Callable[[Path], None
 SHEET = "xl/worksheets/sheet1.xml"
 MAIN = b"http://schemas.openxmlformats.org/spreadsheetml/2006/main"
 STRICT = b"http://purl.oclc.org/ooxml/spreadsheetml/main"
-PARTS: dict[str, tuple[Callable[[Path], None], str]] = {
+PARTS: dict[str, tuple[Callable[[Path], None], XlsxCause | None]] = {
     "strict": (
         parts(lambda p: p.update({n: d.replace(MAIN, STRICT) for n, d in p.items()})),
-        "this is a Strict Open XML workbook: save it as Excel Workbook (*.xlsx)",
+        XlsxCause.STRICT,
     ),
-    "lost": (parts(lambda p: p.pop(SHEET)), "the part of the sheet 'streams' isn't in this"),
+    "lost": (parts(lambda p: p.pop(SHEET)), XlsxCause.NO_PART),
     "twice": (
         parts(lambda p: p.update({f"{SHEET}~": p[SHEET]})),
-        f"two parts with the name {SHEET}",
+        XlsxCause.TWO_PARTS,
     ),
-    "case": (parts(lambda p: p.update({SHEET.upper(): p.pop(SHEET)})), ""),
+    "case": (parts(lambda p: p.update({SHEET.upper(): p.pop(SHEET)})), None),
 }
 
 
 @pytest.mark.parametrize("of", PARTS)
 @pytest.mark.filterwarnings("ignore:Duplicate name")
 def test_a_sheet_is_not_lost_with_its_part(of: str, tmp_path: Path) -> None:
-    edit, what = PARTS[of]
+    edit, cause = PARTS[of]
     tickets: Rows = [["id", "stream", "first", "amount"], ["t1", "TRUCKS", "2024-04-01", 850]]
     path = xlsx_of(tmp_path, {**SHEETS, "tickets": tickets}, {})
     edit(path)
-    if what:
-        with pytest.raises(InputFault) as fault:
+    if cause is not None:
+        with pytest.raises(CausedFault) as fault:
             convert(path, locale="en")
-        assert what in str(fault.value)
+        assert fault.value.case.cause is cause
     else:
         check(convert(path, locale="en"), 850_000_000)
 

@@ -18,9 +18,11 @@ import pytest
 from hypothesis import given, settings
 from hypothesis import strategies as st
 
-from plantbal.faults import InputFault
+from plantbal.causes import CausedFault
 from plantbal.workbook.cellforms import cell_form
+from plantbal.workbook.packed import PackedCause
 from plantbal.workbook.sheets import NoValue, Percent, Sheet, Shown, Value, letters, read_workbook
+from plantbal.workbook.xlsxparts import XlsxCause
 
 MAIN = "http://schemas.openxmlformats.org/spreadsheetml/2006/main"
 _OFFICE = "http://schemas.openxmlformats.org/officeDocument/2006/relationships"
@@ -219,22 +221,26 @@ REFUSED = {
     "a cell that isn't closed": "<row><c><v>1</v></row>",
 }
 BEYOND = {
-    "row 0": '<row r="0"><c><v>1</v></c></row>',
-    "row 1,048,577": '<row r="1048577"/>',
-    "column 18,278": '<row r="3"><c r="ZZZ3"><v>1</v></c></row>',
+    "row 0": ('<row r="0"><c><v>1</v></c></row>', {"row": 0}),
+    "row 1,048,577": ('<row r="1048577"/>', {"row": 1_048_577}),
+    "column 18,278": ('<row r="3"><c r="ZZZ3"><v>1</v></c></row>', {"column": 18_278}),
 }
 
 
 @pytest.mark.parametrize("case", REFUSED)
 def test_what_cant_be_read(case: str) -> None:
-    with pytest.raises(InputFault, match="can't be read"):
+    with pytest.raises(CausedFault) as fault:
         read(packed(f"<sheetData>{REFUSED[case]}</sheetData>"))
+    assert fault.value.case.cause is PackedCause.UNREADABLE
 
 
 @pytest.mark.parametrize("case", BEYOND)
 def test_a_cell_that_no_sheet_has(case: str) -> None:
-    with pytest.raises(InputFault, match=case):
-        read(packed(f"<sheetData>{BEYOND[case]}</sheetData>"))
+    sheet, named = BEYOND[case]
+    with pytest.raises(CausedFault) as fault:
+        read(packed(f"<sheetData>{sheet}</sheetData>"))
+    assert fault.value.case.cause is XlsxCause.BEYOND_SHEET
+    assert fault.value.case.values.items() >= named.items()
 
 
 @pytest.mark.parametrize("part", ["sheets/one", "texts", "styles", "book"])
@@ -242,8 +248,9 @@ def test_entities_are_refused(part: str) -> None:
     declared = '<!DOCTYPE x [<!ENTITY a "aaaaaaaaaa">]>'
     own = {"sheets/one": f'<worksheet xmlns="{MAIN}"/>', "texts": SHARED, "styles": STYLES}
     text = own.get(part, BOOK.format(0))
-    with pytest.raises(InputFault, match="can't be read"):
+    with pytest.raises(CausedFault) as fault:
         read(packed("", **{part: declared + text}))
+    assert fault.value.case.cause is PackedCause.UNREADABLE
 
 
 def test_a_million_shared_strings() -> None:

@@ -67,10 +67,9 @@ def named_book(
     """
     if folder is None:
         return {}
-    from plantbal.book.store import Store
+    from plantbal.book.opening import read_book
 
-    book = Store(folder)
-    with book.opened(reading=True):
+    with read_book(folder) as book:
         head = book.head
         if session is not None and not rows_in(book.journal(), session):
             raise InputFault(
@@ -116,10 +115,9 @@ def was_in(folder: str, session: bytes) -> bool:
         If there is no book, or one of its files was changed.
     """
     from plantbal.book.forms import is_year_file
-    from plantbal.book.store import Store
+    from plantbal.book.opening import read_book
 
-    book = Store(folder)
-    with book.opened(reading=True):
+    with read_book(folder) as book:
         lines = book.journal()
     for name in {name for line in lines for name in line.files if is_year_file(name)}:
         so_far, at, last = hashlib.sha256(), 0, None
@@ -216,11 +214,11 @@ class Linked:
 
     def _book(self, folder: str) -> Iterator[tuple[SentenceKind, str]]:
         """Give whether a book has the head, and whether it had the session's rows by then."""
-        from plantbal.book.store import Store
+        from plantbal.book.opening import read_book
         from plantbal.book.verifying import missing_head
 
-        named, book = self.manifest.book, Store(folder)
-        with book.opened(reading=True):
+        named = self.manifest.book
+        with read_book(folder) as book:
             wrong = missing_head(book, self.path, f"{named['number']} {named['head']}")
             lines = book.journal()[: int(named["number"])] if not wrong else []
         for each in wrong:

@@ -21,20 +21,29 @@ from plantbal.workbook.summed import SummedFact, read_summed, summed_text
 _SAID = 3  # rows that are named; the others are counted
 
 
+class NotSummed(InputFault):
+    """A file that isn't one of how readings were added up."""
+
+    def __init__(self, source: str) -> None:
+        super().__init__(
+            "this isn't a file of how readings were added up",
+            place=Place(file=source),
+            remedy="take it as plantbal wrote it, or from a backup",
+        )
+
+
 def read_sums(source: str, data: bytes) -> list[SummedFact]:
     """Return the rows of such a file.
 
     Raises
     ------
-    InputFault
+    NotSummed
         If it is none.
     """
     try:
         return read_summed(decoded(source, data))
     except ValueError as error:
-        what = "this isn't a file of how readings were added up"
-        remedy = "take it as plantbal wrote it, or from a backup"
-        raise InputFault(what, place=Place(file=source), remedy=remedy) from error
+        raise NotSummed(source) from error
 
 
 def sums_of_book(book: str | None) -> list[SummedFact]:

@@ -15,6 +15,7 @@ import zipfile
 import zlib
 from collections.abc import Callable, Iterable, Mapping, Sequence
 from dataclasses import dataclass
+from enum import unique
 from pathlib import Path
 
 from plantbal.book.forms import (
@@ -33,6 +34,7 @@ from plantbal.book.forms import (
     is_year_file,
 )
 from plantbal.book.journal import Act, JournalLine, Kept
+from plantbal.causes import CausedFault, Causes
 from plantbal.faults import InputFault, Place
 
 _DIGITS = re.compile(r"(?:[0-9a-f]{8})+")  # of the lines of a file
@@ -40,6 +42,19 @@ _SHOWN = 200  # characters of a row
 _MOST_BYTES = 1 << 26  # of a file in a bundle
 
 Read = Callable[[str], bytes | None]  # the bytes of a file of the book, or None if it isn't there
+
+
+@unique
+class FileCause(Causes):
+    """Why a file of a book is neither read nor written."""
+
+    CHANGED_MEANWHILE = "it was changed by other means while this command was at work"
+    NOT_WRITTEN_HERE = "no action of this book has written it, and it isn't overwritten"
+
+
+def file_fault(cause: FileCause, path: Path, remedy: str) -> CausedFault:
+    """Return the fault of a file of a book."""
+    return CausedFault(cause(), place=Place(file=str(path)), remedy=remedy)
 
 
 def state_of(lines: Iterable[JournalLine]) -> dict[str, Kept]:

@@ -24,9 +24,11 @@ from plantbal.book import expected as expecting
 from plantbal.book.actions import Action, Head, Withheld
 from plantbal.book.chain import (
     Chain,
+    FileCause,
     FileDifference,
     checks_of,
     checks_text,
+    file_fault,
     read_checks,
     state_of,
     unknown_file,
@@ -316,8 +318,7 @@ class Store:
         data = read_bytes(path, most)[1] if path.is_file() else None
         digest = hashlib.sha256(data).digest() if data is not None else b""
         if self._seen.setdefault(name, digest) != digest:
-            what = "it was changed by other means while this command was at work"
-            raise InputFault(what, place=Place(file=str(path)), remedy="find out by what")
+            raise file_fault(FileCause.CHANGED_MEANWHILE, path, "find out by what")
         for entry in self.waits:
             if entry.file == name:
                 data = entry.whole(data or b"", path)
@@ -425,11 +426,8 @@ class Store:
         """
         for entry in entries:
             if not self.knows(entry.file) and self._bytes(entry.file) is not None:
-                raise InputFault(
-                    "no action of this book has written it, and it isn't overwritten",
-                    place=Place(file=str(self.path(entry.file))),
-                    remedy="move it away, and type this again",
-                )
+                remedy = "move it away, and type this again"
+                raise file_fault(FileCause.NOT_WRITTEN_HERE, self.path(entry.file), remedy)
 
     def _writing(self, entries: list[PendingFile]) -> Writing:
         """Write what files are to have beside them, with the digits of their lines."""

@@ -13,6 +13,7 @@ from plantbal.book.chain import state_of
 from plantbal.book.forms import JOURNAL
 from plantbal.book.results import AcceptedFile, Verified
 from plantbal.book.said import waiting_said
+from plantbal.book.opening import read_book
 from plantbal.book.store import Act, Action, Head, Store
 from plantbal.faults import Fault, InputFault, read_bytes
 
@@ -32,8 +33,7 @@ def head_of(folder: str | Path) -> Head:
     Fault
         If there is no book, a file was changed, or the journal has no digests yet.
     """
-    book = Store(folder)
-    with book.opened(reading=True):
+    with read_book(folder) as book:
         return book.head
 
 

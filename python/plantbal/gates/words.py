@@ -143,13 +143,17 @@ def _frozen(stop: Stop) -> str:
     return Sentence(what, name=stop.names[0], figure=figure, count=len(stop.days), days=days)
 
 
+def _by_days(stop: Stop, one: str, more: str, **values: object) -> str:
+    """Return a sentence on days of a meter, by the form for one or that for more."""
+    name, days = stop.names[0], days_said(stop.days)
+    return counted(len(stop.days), one, more, name=name, days=days, **values)
+
+
 def _negative(stop: Stop) -> str:
-    return counted(
-        len(stop.days),
+    return _by_days(
+        stop,
         "{name} is below 0 on {days}, 1 reading of {readings:,}, at least {figure}",
         "{name} is below 0 on {days}, {count:,} readings of {readings:,}, at least {figure}",
-        name=stop.names[0],
-        days=days_said(stop.days),
         readings=stop.values["readings"],
         figure=_tonnes(stop.values["grams"]),
     )
@@ -163,12 +167,10 @@ def _copy(stop: Stop) -> str:
 
 
 def _estimated(stop: Stop) -> str:
-    return counted(
-        len(stop.days),
+    return _by_days(
+        stop,
         "{name} is estimated on {days}, 1 day: {amount} ± {error}",
         "{name} is estimated on {days}, {count:,} days: {amount} ± {error}",
-        name=stop.names[0],
-        days=days_said(stop.days),
         amount=_tonnes(stop.values["grams"]),
         error=_tonnes(stop.values["error"]),
     )

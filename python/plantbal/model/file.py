@@ -21,6 +21,7 @@ from plantbal.model.effects import Effect
 from plantbal.model.facts import At
 from plantbal.model.quick import taken
 from plantbal.model.readings import ReadingRows, ReadingRun
+from plantbal.model.refusals import Coded
 from plantbal.model.state import Accepted, Answer, State
 
 # The longest run of readings that is taken as a whole, in characters and in rows, the same of other
@@ -106,22 +107,6 @@ class Step:
     def effect(self) -> Effect | None:
         """What it does or asks for, if it is accepted."""
         return self.answer.effect if isinstance(self.answer, Accepted) else None
-
-
-@dataclass(frozen=True, slots=True)
-class Coded:
-    """Refused readings of a run, of which nothing is asked but their codes.
-
-    Attributes
-    ----------
-    records : list of int
-        The numbers of their records.
-    codes : bytes
-        The code of each.
-    """
-
-    records: list[int]
-    codes: bytes
 
 
 def _always() -> bool:

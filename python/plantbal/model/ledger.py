@@ -23,10 +23,10 @@ from plantbal.model.causes import Refused
 from plantbal.model.core import installed_core
 from plantbal.model.effects import Effect
 from plantbal.model.facts import At, Edit, Fact
-from plantbal.model.file import Coded, Rows, Step, steps
+from plantbal.model.file import Rows, Step, steps
 from plantbal.model.periods import Period, Span
 from plantbal.model.plant import ENV, Stream
-from plantbal.model.refusals import Refusals
+from plantbal.model.refusals import Coded, Refusals
 from plantbal.model.state import State
 from plantbal.model.topology import Arc
 from plantbal.model.words import refusal_of
@@ -281,7 +281,7 @@ class Ledger:
             return
         if isinstance(step, Coded):
             self.rows += len(step.records)
-            self.refused.note_all(step.records, step.codes)
+            self.refused.note_all(step)
             return
         self.rows += 1
         if isinstance(step.answer, Refused):

@@ -3,9 +3,26 @@
 from __future__ import annotations
 
 from array import array
-from collections.abc import Iterator, Sequence
+from collections.abc import Iterator
+from dataclasses import dataclass
 
 from plantbal.faults import Refusal
+
+
+@dataclass(frozen=True, slots=True)
+class Coded:
+    """Refused readings of a run, of which nothing is asked but their codes.
+
+    Attributes
+    ----------
+    records : list of int
+        The numbers of their records.
+    codes : bytes
+        The code of each.
+    """
+
+    records: list[int]
+    codes: bytes
 
 
 class Refusals(list[Refusal]):
@@ -48,10 +65,10 @@ class Refusals(list[Refusal]):
         self.numbers.append(number or 0)
         self.codes.append(code)
 
-    def note_all(self, numbers: Sequence[int], codes: bytes) -> None:
+    def note_all(self, coded: Coded) -> None:
         """Take refused rows of which nothing is kept but their numbers and their codes."""
-        self.numbers.extend(numbers)
-        self.codes.frombytes(codes)
+        self.numbers.extend(coded.records)
+        self.codes.frombytes(coded.codes)
 
     def take_back(self) -> Refusal:
         """Return the row that was taken last, and forget it; it has to be one that is kept."""

@@ -13,7 +13,7 @@ from typing import Any
 from plantbal.accounts.account import MonthAccount, Rolled
 from plantbal.book.accounting import accounts_of, report_months, unusual_of, versions_of
 from plantbal.book.difference import difference_of, has_before
-from plantbal.book.store import Store
+from plantbal.book.opening import read_book
 from plantbal.page.accounts import part_of
 from plantbal.report.blocks import Values, blocks_of, last_blocks
 
@@ -56,8 +56,7 @@ def booked(folder: str | None, rows: Sequence[Values], digest: str = "") -> From
     blocks = {
         name: block for name, block in last_blocks(blocks_of(rows)).items() if block.is_report
     }
-    book = Store(folder)
-    with book.opened(reading=True):
+    with read_book(folder) as book:
         versions = versions_of(book)
         there = {name: block for name, block in blocks.items() if name in versions}
         if not there:

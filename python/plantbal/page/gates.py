@@ -88,12 +88,12 @@ def closing_notes(folder: str | None) -> ClosingNotes:
     from plantbal.accounts.sheet import sales_units
     from plantbal.book.accounting import accounts_of
     from plantbal.book.answers import answered, quieted
-    from plantbal.book.store import Act, Store
+    from plantbal.book.opening import read_book
+    from plantbal.book.store import Act
 
-    store = Store(folder)
-    with store.opened(reading=True):
-        journal = store.journal()
-        units = sales_units(accounts_of(store))
+    with read_book(folder) as book:
+        journal = book.journal()
+        units = sales_units(accounts_of(book))
     closed = [line.of for line in journal if line.act is Act.CLOSE]
     closes = {period: answered(journal, period) for period in closed}
     return ClosingNotes(closes, quieted(journal), units)

@@ -9,7 +9,7 @@ from __future__ import annotations
 from dataclasses import replace
 
 from plantbal.book.reasons import in_ascii
-from plantbal.book.store import Store
+from plantbal.book.opening import read_book
 from plantbal.page.statement import PageContents, ShownEdit, Statement
 
 # The rows that an action has added, and its reasons as typed by those of rows.
@@ -33,10 +33,9 @@ def with_typed(page: PageContents, folder: str | None) -> PageContents:
     """
     if folder is None or not any(each.edits for each in page.statements):
         return page
-    store = Store(folder)
     lines: _Lines = []
-    with store.opened(reading=True):
-        for line in store.journal():
+    with read_book(folder) as book:
+        for line in book.journal():
             parts = {in_ascii(part): part for part in {line.why, *line.why.split("; ")}}
             if line.added and not line.why.isascii():
                 lines.append(([*line.added.values()], parts))

@@ -17,11 +17,11 @@ from plantbal.model.causes import Refused
 from plantbal.model.effects import Effect
 from plantbal.model.facts import At
 from plantbal.model.core import CoreSession, installed_core
-from plantbal.model.file import Coded, Rows, Step, fold, steps
+from plantbal.model.file import Rows, Step, fold, steps
 from plantbal.model.periods import Period
 from plantbal.model.plant import Service
 from plantbal.model.readings import ReadingRows
-from plantbal.model.refusals import Refusals
+from plantbal.model.refusals import Coded, Refusals
 from plantbal.model.state import State
 from plantbal.model.words import refusal_of
 from plantbal.records import without_empty_end
@@ -252,7 +252,7 @@ class SessionRows:
                     yield step
                 elif isinstance(step, Coded):
                     numbers = (place(At(record)).record for record in step.records)
-                    self.refused.note_all([number or 0 for number in numbers], step.codes)
+                    self.refused.note_all(Coded([number or 0 for number in numbers], step.codes))
                 elif isinstance(step.answer, Refused):
                     self._refuse(step.fields, step.answer, place(step.at))
                 else:

@@ -6,12 +6,21 @@ import io
 import zipfile
 from collections.abc import Iterable, Iterator
 from contextlib import contextmanager
+from enum import unique
 
 from plantbal import limits
+from plantbal.causes import Causes, CausedFault
 from plantbal.faults import InputFault, Place
 from plantbal.sentence import Sentence
 
 _SAID = 5  # rows, columns or cells of a kind that a note names
+
+
+@unique
+class PackedCause(Causes):
+    """Why a packed workbook can't be read."""
+
+    UNREADABLE = "this workbook can't be read ({error})"
 
 
 @contextmanager
@@ -22,11 +31,9 @@ def readable(name: str) -> Iterator[None]:
     except InputFault:
         raise
     except Exception as error:  # a reader raises whatever its parts raise
-        raise InputFault(
-            Sentence(
-                "this workbook can't be read ({error})",
-                error=str(error)[:200] or type(error).__name__,
-            ),
+        said = str(error)[:200] or type(error).__name__
+        raise CausedFault(
+            PackedCause.UNREADABLE(error=said),
             place=Place(file=name),
             remedy="open it and save it again",
         ) from error

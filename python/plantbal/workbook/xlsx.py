@@ -10,11 +10,12 @@ from __future__ import annotations
 import io
 import zipfile
 
+from plantbal.causes import CausedFault
 from plantbal.faults import InputFault, Place
 from plantbal.workbook.packed import check_size, readable
 from plantbal.workbook.sheets import Held, Sheet
 from plantbal.workbook.xlsxcells import CellValues, XlsxRows
-from plantbal.workbook.xlsxparts import NotRead, small_parts
+from plantbal.workbook.xlsxparts import small_parts
 
 
 def xlsx_of(name: str, data: bytes) -> list[Sheet]:
@@ -39,9 +40,8 @@ def xlsx_of(name: str, data: bytes) -> list[Sheet]:
         with zipfile.ZipFile(io.BytesIO(data)) as archive:
             try:
                 parts, held = small_parts(archive), Held()
-            except NotRead as fault:
-                place = Place(file=name)
-                raise InputFault(fault.what, place=place, remedy=fault.remedy) from fault
+            except CausedFault as fault:
+                raise fault.at(Place(file=name), "") from fault
             values = CellValues(parts)
             rows = [XlsxRows(name, parts, each, values, held) for each in parts.sheets]
             return [each.sheet(archive) for each in rows]

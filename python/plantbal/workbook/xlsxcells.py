@@ -15,10 +15,11 @@ from itertools import pairwise
 from typing import Any
 
 from plantbal import limits
-from plantbal.faults import InputFault, Place
+from plantbal.causes import CausedFault
+from plantbal.faults import Place
 from plantbal.workbook.packed import hidden_notes
 from plantbal.workbook.sheets import Held, NoValue, Sheet, Value, letters, without_end
-from plantbal.workbook.xlsxparts import SPACE, TRUE, Part, Parts, Style, rich_text
+from plantbal.workbook.xlsxparts import SPACE, TRUE, Part, Parts, Style, XlsxCause, rich_text
 from plantbal.workbook.xmlwalk import SoughtElement, walk
 
 _MOST_KEPT = 100_000
@@ -275,9 +276,9 @@ class XlsxRows:
             self._rich.clear()
         self._has_value = self._is_formula = False
 
-    def _beyond(self, column: int) -> InputFault:
-        return InputFault(
-            f"there is a cell in row {self._line:,}, column {column:,}",
+    def _beyond(self, column: int) -> CausedFault:
+        return CausedFault(
+            XlsxCause.BEYOND_SHEET(row=self._line, column=column),
             place=Place(file=self._made.file, sheet=self._made.name),
             remedy=f"a sheet has {limits.ROWS:,} rows and {limits.COLUMNS:,} columns",
         )

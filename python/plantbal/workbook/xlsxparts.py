@@ -12,8 +12,10 @@ import posixpath
 import zipfile
 from collections.abc import Iterator
 from dataclasses import dataclass
+from enum import unique
 from typing import TYPE_CHECKING
 
+from plantbal.causes import Causes, CausedFault
 from plantbal.faults import ToolMissing
 from plantbal.workbook.cellforms import Form, cell_form
 from plantbal.workbook.sheets import EPOCH, EPOCH_1904
@@ -39,6 +41,17 @@ _STRINGS = f"{_SHEETML}sharedStrings+xml"
 _STYLES, _BOOK = "xl/styles.xml", "xl/workbook.xml"
 _FALSE = ("0", "false", "f")
 TRUE = ("1", "true")
+_SAVE_AGAIN = "open it in a spreadsheet and save it again"
+
+
+@unique
+class XlsxCause(Causes):
+    """Why a workbook of Excel can't be read."""
+
+    STRICT = "this is a Strict Open XML workbook"
+    TWO_PARTS = "this workbook has two parts with the name {name}"
+    NO_PART = "the part of the sheet {name!r} isn't in this workbook"
+    BEYOND_SHEET = "there is a cell in row {row:,}, column {column:,}"
 
 
 @dataclass(frozen=True, slots=True)
@@ -97,7 +110,7 @@ def small_parts(archive: zipfile.ZipFile) -> Parts:
 
     Raises
     ------
-    NotRead
+    CausedFault
         If it is of another form, or a part that it names isn't there.
     ToolMissing
         If openpyxl or defusedxml isn't installed.
@@ -110,7 +123,7 @@ def small_parts(archive: zipfile.ZipFile) -> Parts:
     member = next((types[each] for each in _BOOKS if each in types), _BOOK)
     book = _tree(archive, member)
     if book.tag != f"{MAIN}workbook":
-        raise NotRead("this is a Strict Open XML workbook", "save it as Excel Workbook (*.xlsx)")
+        raise CausedFault(XlsxCause.STRICT(), remedy="save it as Excel Workbook (*.xlsx)")
     settings = book.find(f"{MAIN}workbookPr")
     is_1904 = settings is not None and settings.get("date1904") in TRUE
     styles = _styles(_tree(archive, _STYLES)) if _STYLES in archive.namelist() else []
@@ -122,22 +135,12 @@ def small_parts(archive: zipfile.ZipFile) -> Parts:
     )
 
 
-class NotRead(ValueError):
-    """A workbook that can't be read, and what to do about it."""
-
-    def __init__(
-        self, what: str, remedy: str = "open it in a spreadsheet and save it again"
-    ) -> None:
-        super().__init__(what)
-        self.what, self.remedy = what, remedy
-
-
 def _check_once(archive: zipfile.ZipFile) -> None:
     """Refuse an archive with two parts of a name: programs read one of them, and not the same."""
     seen: set[str] = set()
     for name in archive.namelist():
         if name.casefold() in seen:
-            raise NotRead(f"this workbook has two parts with the name {name}")
+            raise CausedFault(XlsxCause.TWO_PARTS(name=name), remedy=_SAVE_AGAIN)
         seen.add(name.casefold())
 
 
@@ -167,7 +170,7 @@ def _sheets(archive: zipfile.ZipFile, member: str, book: Element) -> Iterator[Pa
         found = names.get(posixpath.normpath(own).casefold())
         name = sheet.get("name", "")
         if found is None:
-            raise NotRead(f"the part of the sheet {name!r} isn't in this workbook")
+            raise CausedFault(XlsxCause.NO_PART(name=name), remedy=_SAVE_AGAIN)
         if "chartsheet" not in link.get("Type", ""):
             yield Part(name, sheet.get("state", "visible") != "visible", found)
 

@@ -10,6 +10,7 @@ from plantbal.book.approval.rules import Rules, read_rules
 from plantbal.book.approval.state import record_of, submitted_month
 from plantbal.book.forms import APPROVALS, REVOKED, RULES, SIGNERS, year_file
 from plantbal.book.journal import Act, Kept, JournalLine
+from plantbal.book.opening import read_book
 from plantbal.book.store import Store
 from plantbal.book.years import Years
 
@@ -29,8 +30,7 @@ def carried_approvals(folder: str | Path, period: str) -> dict[str, dict[str, st
     Fault
         If there is no book, or a file of it was changed.
     """
-    book = Store(folder)
-    with book.opened(reading=True):
+    with read_book(folder) as book:
         closes = [each for each in book.journal() if each.act is Act.CLOSE and each.of == period]
         if not closes:
             return {}

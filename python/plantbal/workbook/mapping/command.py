@@ -7,7 +7,7 @@ import sys
 from pathlib import Path
 
 from plantbal.book.meters import read_meters
-from plantbal.book.store import Store
+from plantbal.book.opening import read_book
 from plantbal.book.years import Years
 from plantbal.files import write_text
 from plantbal.workbook.mapping.form import mapping_text
@@ -70,10 +70,9 @@ def proposal_text(found: MappingProposal, workbook: str | Path) -> str:
 
 def known_in_folder(folder: str | Path) -> KnownPlant:
     """Return the tags, streams and tanks of a book."""
-    store = Store(folder)
-    with store.opened(reading=True):
-        last = Years(store, lambda _: None).last
-        meters = read_meters(store)
+    with read_book(folder) as book:
+        last = Years(book, lambda _: None).last
+        meters = read_meters(book)
     tags = tuple(meter.tag for meter in meters.values() if meter.tag)
     tanks = tuple(row[1] for row in last.plant if row[0] == "tank")
     streams = tuple(row[1] for row in last.plant if row[0] == "stream")
