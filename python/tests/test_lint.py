@@ -21,7 +21,7 @@ from plantbal.fleet.sites import sites
 from plantbal.fleet.taking import Taker
 from plantbal.lint import brief, lint_session, summary
 from plantbal.lint.findings import RULES, SEVERITIES
-from plantbal.lint.plant import near_pairs, one_letter_apart
+from plantbal.lint.plant import MOST_PAIRS, near_pairs, one_letter_apart
 from plantbal.lint.rules import find
 from plantbal.model.ledger import Ledger
 from plantbal.model.topology import Arc, classes_of, degrees_of_freedom
@@ -455,6 +455,17 @@ def test_accounts(tmp_path: Path) -> None:
     wanted = {name: "no-account" for name in names} | {"SILO": "no-owner"}
     assert said == {name: code for name, code in wanted.items() if name != "FEED"}
     assert codes(GOOD, notes=False) == []
+
+
+def test_many_near_names() -> None:
+    """The first hundred pairs are named, and it is said that there are more."""
+    names = [f"MILL{one}{other}" for one in "ACEGIK" for other in "MOQSUW"]
+    for count, more in ((14, 0), (len(names), 1)):
+        rows = "".join(f"unit,{name}\n" for name in names[:count])
+        found = [each for each in lint_session(rows.encode()) if each.code == "near-names"]
+        said = [each for each in found if not each.names]
+        assert len(said) == more and len(found) <= MOST_PAIRS + more
+        assert all(str(MOST_PAIRS) in each.text for each in said)
 
 
 def test_nearly_full(monkeypatch: pytest.MonkeyPatch) -> None:

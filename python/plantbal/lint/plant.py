@@ -152,13 +152,21 @@ def near_names(ledger: Ledger) -> Iterator[Finding]:
         ("streams", streams, ledger.state.plant.lines),
         ("components", list(graded), graded),
     ):
-        for one, other in islice(near_pairs(names), MOST_PAIRS):
+        pairs = near_pairs(names)
+        for one, other in islice(pairs, MOST_PAIRS):
             first, second = sorted((one, other), key=lambda name: lines[name])
             form = "the {what} {first} and {second} have nearly the same name"
             text = Sentence(form, what=Sentence(what), first=first, second=second)
             remedy = "correct one of them if they are the same; if not, choose names less alike"
             place = place_in(ledger, lines[second])
             yield Finding("near-names", text, remedy, place, second, names=(first, second))
+        if next(pairs, None) is not None:
+            form = (
+                "more than {count} pairs of {what} have nearly the same name: these are the first"
+            )
+            text = Sentence(form, count=MOST_PAIRS, what=Sentence(what))
+            remedy = "look through all names; the others are listed when these are corrected"
+            yield Finding("near-names", text, remedy, place_in(ledger, None))
 
 
 def nearly_full(ledger: Ledger) -> Iterator[Finding]:
