@@ -458,7 +458,9 @@ def test_rows_after_those_that_were_approved(case: str, room: Room, say: Desk) -
     (kept,) = [kept for name, kept in close.record.files.items() if is_year_file(name)]
     assert [kind for kind, _ in judged.after(kept)] == [wanted]
     with_book = replace(judged, has_book=True)
-    assert [kind for kind, _ in with_book.after(kept)] == [SentenceKind.NOTE], "the book has the rows"
+    assert [kind for kind, _ in with_book.after(kept)] == [
+        SentenceKind.NOTE
+    ], "the book has the rows"
     (room.path / "made.zip").write_bytes(packed(bundle_files(session, output, manifest)))
     said = say("audit", room.path / "made.zip", "--signers", room.path / "signers")
     assert (" isn't what was approved: " in said.out) is (wanted is SentenceKind.WRONG)
