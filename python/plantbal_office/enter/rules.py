@@ -28,6 +28,7 @@ from plantbal.model.remedies import NAME_FORM, NAME_LETTERS, NAME_LONG, NAME_SUC
 from plantbal.model.state import State
 from plantbal.model.words import FORM_OF_NOTHING, FORM_OF_TEXT, refusal_of
 from plantbal.schema import schema
+from plantbal.sentence import Sentence
 from plantbal.workbook import celldays, cells, locales, units
 from plantbal.workbook.causes import SheetCause
 from plantbal.workbook.remedies import CellRemedy, OptionRemedy
@@ -296,7 +297,10 @@ def _reading(locale: str) -> dict[str, Any]:
     return {
         "locale": own,
         "marks": locales.symbols(own),
-        "others": [[name, said, *locales.symbols(name)] for name, said in cells.MARKS.items()],
+        "others": [
+            [name, said(Sentence(mark)), *locales.symbols(name)]
+            for name, mark in cells.MARKS.items()
+        ],
         "order": locales.day_order(own),
         "months": locales.month_names(own),
         "epoch": str(EPOCH),

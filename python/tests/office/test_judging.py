@@ -79,7 +79,7 @@ KINDS = (
     "MM is 25000, and the table of SILO goes from 10 to 20000",
     "there is no density",
     "isn't a number",
-    "has a decimal comma, and --locale is en_US",
+    "has a decimal comma, and the workbook is read as en_US",
     "the formula of this cell fails",
     "not a rate",
     "a reading of 0 has no error in percent",

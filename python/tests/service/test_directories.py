@@ -189,7 +189,7 @@ def _told_wrong(office: services.Service, provider: Provider) -> None:
             "sends codes in plain text",
         ),
         ('[sign_in]\nsecond = "some"\n', "'some' is not a valid Second"),
-        ("[sign_in]\ncolour = 1\n", "has no colour"),
+        ("[sign_in]\ncolour = 1\n", "has no setting colour"),
         ("hosts = 1\n", "Cannot overwrite"),
     ],
 )
