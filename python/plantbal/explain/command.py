@@ -34,8 +34,8 @@ If the first file is a report, the second is what a check said about it; without
 the check itself. Each `no` and each `unreadable` is shown with its row, and with what the test asks
 for.
 
-With --fact the line of one fact is shown, with what is booked; and with --book too of which cells and
-hours the figure was made, if it is a sum of hours or what a counter advanced.
+With --fact, the line of one fact is shown, and what is booked of it. If its figure is a sum of hours or
+what a counter advanced, --book shows the cells and hours of which it was made.
 
 The status is 1 if there was anything to explain, and 0 otherwise.
 
