@@ -32,8 +32,11 @@ _MOST_ROWS = 5_000
 _FEW = 8
 # The rows that are in memory at once: a file of two letters a line has millions.
 _BATCH = 1 << 15
-# Where a run of readings ends.
+# Where a run of readings ends, and where one begins that is longer than those taken row by row.
 _OTHER = re.compile(r"\n(?!reading,)")
+_LONG = rf"reading,[^\n]*(?:\nreading,[^\n]*){{{_FEW}}}"
+_BEGINS = re.compile(_LONG)
+_NEXT = re.compile(rf"\n{_LONG}")
 
 
 @dataclass(frozen=True, slots=True)
@@ -259,14 +262,14 @@ def _plain_rows(text: str) -> Iterator[Rows]:
     """Give the rows of a text without quotes whose lines end with LF."""
     at, line, record = 0, 1, 1
     while at < len(text):
-        if text.startswith("reading,", at):
+        if _BEGINS.match(text, at):
             end = _end_of_run(text, at)
             count = text.count("\n", at, end - 1) + 1
             rows = ReadingRows(text=text[at:end], count=count)
             yield Rows(rows, record, range(line, line + count))
         else:
-            end = text.find("\nreading,", at, at + _MOST_OTHERS) + 1
-            end = end or text.find("\n", at + _MOST_OTHERS) + 1 or len(text)
+            run = _NEXT.search(text, at, at + _MOST_OTHERS)
+            end = run.start() + 1 if run else text.find("\n", at + _MOST_OTHERS) + 1 or len(text)
             lines = text[at : end - text.endswith("\n", at, end)].split("\n")
             numbered = [
                 (number, each.split(",")) for number, each in enumerate(lines, line) if each

@@ -22,8 +22,9 @@ if TYPE_CHECKING:
 _BY_STREAM = [rule for rule in FACT_RULES if rule.looks is LooksAt.STREAM]
 _BY_DAYS = [rule for rule in FACT_RULES if rule.looks is LooksAt.DAY]
 _OTHERS = [rule for rule in FACT_RULES if rule.looks not in (LooksAt.STREAM, LooksAt.DAY)]
+_KINDS = ("reading", "transfer", "dip", "amend", "strike")
 _BY_COUNT: dict[tuple[str, int], Row] = {
-    (kind, len(row.columns) + 1): row for kind in ("transfer", "dip", "amend") for row in ROWS[kind]
+    (kind, len(row.columns) + 1): row for kind in _KINDS for row in ROWS[kind]
 }
 
 
