@@ -24,7 +24,7 @@ from plantbal.faults import Fault
 from plantbal.gates import Gate, Stop, about, remedy_of_stop, said_of_stop
 from plantbal.lint.findings import RULES
 from plantbal_office.deeds.once import once
-from plantbal_office.effects import TRIED, Said, Trial, touched_months, tried
+from plantbal_office.effects import TRIED, Said, Trial, kept_output, touched_months, tried
 from plantbal_office.effects import report_said as report_said
 from plantbal_office.enter.typed import typing_locale
 from plantbal_office.look.views import month_in_address
@@ -257,7 +257,9 @@ def close_page(request: HttpRequest, period: str) -> HttpResponse:
     version, rules = book_contents(request.plant).version, plain_book(request.plant).rules()
     whole, stops = _asked(request, period)
     gates = list(dict.fromkeys(stop.gate for stop in stops))
+    kept = kept_output(request.plant, book_contents(request.plant), period)
     words = {
+        "left_out": kept is not None and any(row["row"] == "taken" for row in kept.rows),
         "month": month,
         "said": whole,
         "gates": [(gate, said(about(gate)), _of(gate, stops)) for gate in gates],

@@ -98,6 +98,19 @@ def test_pages(site: Site, language: str) -> None:
         assert not found, f"{path} in {language} has English: {found[:6]}"
 
 
+@pytest.mark.parametrize(
+    ("language", "words"),
+    (("en", "leaves suspects out"), ("de", "lässt Verdächtige aus"), ("es", "deja fuera")),
+)
+def test_a_close_after_an_elimination(site: Site, language: str, words: str) -> None:
+    """A close takes nobody out: that it isn't the report that was looked at is said beside it."""
+    spoken(site, language)
+    assert words not in text_of(site.get("correct/2024-04/close"))
+    data = {**site.fields("look/2024-04/"), "eliminate": "1"}
+    site.client.post(f"/p/{site.plant.slug}/correct/2024-04/report", data, follow=True)
+    assert words in text_of(site.get("correct/2024-04/close"))
+
+
 def test_faults(site: Site) -> None:
     """The faults of a workbook are said at their cells in German, what to do about them too."""
     spoken(site, "de")
