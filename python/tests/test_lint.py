@@ -22,6 +22,7 @@ from plantbal.fleet.taking import Taker
 from plantbal.lint import brief, lint_session, summary
 from plantbal.lint.findings import RULES, SEVERITIES
 from plantbal.lint.plant import MOST_PAIRS, near_pairs, one_letter_apart
+from plantbal.sentence import Sentence
 from plantbal.lint.rules import find
 from plantbal.model.ledger import Ledger
 from plantbal.model.topology import Arc, classes_of, degrees_of_freedom
@@ -739,7 +740,7 @@ def test_more_is_asked_for_than_is_looked_at(kind: str, monkeypatch: pytest.Monk
     assert not {"not-reported", "no-balance", "after-report"} & {each.code for each in some}
     beyond = rows.split("\n")[first - 1 :]
     count = sum(row.split(",")[0] in ASKED_KINDS for row in beyond)
-    assert said.text.startswith(f"{count} row")
+    assert isinstance(said.text, Sentence) and said.text.values["count"] == count
 
 
 ASKED_KINDS = ("report", "window", "component", "design", "advise")

@@ -12,7 +12,7 @@ from decimal import Decimal
 from pathlib import Path
 
 from plantbal.audit.bundle import MEASURED, SESSION
-from plantbal.audit.said import SentenceKind
+from plantbal.audit.said import SentenceKind, first_wrong
 from plantbal.book.forms import MEASURED as OF_BOOK
 from plantbal.faults import InputFault, Place, decoded, read_bytes
 from plantbal.limits import SESSION_BYTES
@@ -20,7 +20,6 @@ from plantbal.volumes.trail import Trail, read_trails, trails_text
 
 # A mass is kept with twelve decimals, and so are the figures that it follows from.
 _NEAR = Decimal("0.001")
-_SAID = 3  # rows that are named; the others are counted
 
 
 def measured_of(book: str | None, session: bytes) -> bytes | None:
@@ -64,10 +63,7 @@ def reckoned(path: str, files: Mapping[str, bytes]) -> Iterator[tuple[SentenceKi
         return
     rows = rows_of_session(files[SESSION])
     wrong = [said for each in trails if (said := differs(each, rows))]
-    for said in wrong[:_SAID]:
-        yield SentenceKind.WRONG, f"{name}: {said}"
-    if len(wrong) > _SAID:
-        yield SentenceKind.WRONG, f"{name}: {len(wrong) - _SAID:,} more differ"
+    yield from first_wrong(name, wrong)
     if not wrong:
         masses = "1 mass is" if len(trails) == 1 else f"{len(trails):,} masses are"
         what = f"{masses} calculated again from what was measured, and booked so in the session"

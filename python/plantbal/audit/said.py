@@ -2,12 +2,14 @@
 
 from __future__ import annotations
 
+from collections.abc import Iterator, Sequence
 from dataclasses import dataclass, field
 from enum import StrEnum
 from itertools import zip_longest
 from os.path import commonprefix
 
 SHORT = 120  # characters of a line that are quoted
+_SAID = 3  # rows of a file that are named; the others are counted
 
 
 class SentenceKind(StrEnum):
@@ -16,6 +18,14 @@ class SentenceKind(StrEnum):
     GOOD = "good"
     NOTE = "note"
     WRONG = "wrong"
+
+
+def first_wrong(name: str, wrong: Sequence[str]) -> Iterator[tuple[SentenceKind, str]]:
+    """Give what is wrong with the first rows of a file, and how many more differ."""
+    for said in wrong[:_SAID]:
+        yield SentenceKind.WRONG, f"{name}: {said}"
+    if len(wrong) > _SAID:
+        yield SentenceKind.WRONG, f"{name}: {len(wrong) - _SAID:,} more differ"
 
 
 @dataclass

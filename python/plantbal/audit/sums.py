@@ -12,13 +12,11 @@ from pathlib import Path
 
 from plantbal.audit.bundle import SESSION, SUMMED
 from plantbal.audit.reckoned import booked_figures, rows_of_session
-from plantbal.audit.said import SentenceKind
+from plantbal.audit.said import SentenceKind, first_wrong
 from plantbal.book.forms import SUMMED as OF_BOOK
 from plantbal.faults import InputFault, Place, decoded, read_bytes
 from plantbal.limits import SESSION_BYTES
 from plantbal.workbook.summed import SummedFact, read_summed, summed_text
-
-_SAID = 3  # rows that are named; the others are counted
 
 
 class NotSummed(InputFault):
@@ -80,10 +78,7 @@ def summed_held(path: str, files: Mapping[str, bytes]) -> Iterator[tuple[Sentenc
         return
     rows = rows_of_session(files[SESSION])
     wrong = [said for each in found if (said := sum_differs(each, rows))]
-    for said in wrong[:_SAID]:
-        yield SentenceKind.WRONG, f"{name}: {said}"
-    if len(wrong) > _SAID:
-        yield SentenceKind.WRONG, f"{name}: {len(wrong) - _SAID:,} more differ"
+    yield from first_wrong(name, wrong)
     if not wrong:
         are = "1 reading is" if len(found) == 1 else f"{len(found):,} readings are"
         yield SentenceKind.GOOD, f"{name}: {are} booked in the session as their hours add up"

@@ -14,7 +14,7 @@ from plantbal.model.forms import day_text
 from plantbal.model.ledger import Ledger
 from plantbal.model.periods import Period
 from plantbal.schema import schema
-from plantbal.sentence import Day, Sentence
+from plantbal.sentence import Day, Sentence, counted
 
 
 def refused_rows(ledger: Ledger, left_out: Sequence[Refusal]) -> Iterator[Finding]:
@@ -274,8 +274,11 @@ def no_transfers(ledger: Ledger) -> Iterator[Finding]:
 def not_looked_at(ledger: Ledger) -> Iterator[Finding]:
     """Yield that the last rows that ask for output weren't looked at, if that would take too long."""
     if ledger.unlooked:
-        rows = "1 row" if ledger.unlooked == 1 else f"{ledger.unlooked:,} rows"
-        text = f"{rows} that ask for output, from here on, aren't looked at: there are too many"
+        text = counted(
+            ledger.unlooked,
+            "this row asks for output, and isn't looked at: there are too many such rows",
+            "{count:,} rows that ask for output, from here on, aren't looked at: there are too many",
+        )
         remedy = "lint a session that asks for each report, window and balance once"
         yield Finding("not-looked-at", text, remedy, place_in(ledger, ledger.unlooked_from))
 
