@@ -200,8 +200,9 @@ class RunSettings:
     ----------
     tests : bool
         Whether tests are made.
-    eliminate : int
-        The most suspects that are taken out, one in each round.
+    eliminate : int or None
+        The most suspects that are taken out, one in each round; None if nobody says it: in a book
+        as many as the last report of the same was made with, if tests are made, and else none.
     gap : int
         The greatest gap, in thousandths of a standard deviation.
     sweeps : int
@@ -211,14 +212,17 @@ class RunSettings:
     """
 
     tests: bool = True
-    eliminate: int = 0
+    eliminate: int | None = None
     gap: int = 10
     sweeps: int = 5000
     program: str | Path | None = None
 
     @property
+    def rounds(self) -> int:
+        """The most suspects that are taken out."""
+        return self.eliminate or 0
+
+    @property
     def words(self) -> list[str]:
         """The words of such a run."""
-        return words_of(
-            tests=self.tests, eliminate=self.eliminate, gap=self.gap, sweeps=self.sweeps
-        )
+        return words_of(tests=self.tests, eliminate=self.rounds, gap=self.gap, sweeps=self.sweeps)

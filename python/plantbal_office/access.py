@@ -127,6 +127,8 @@ _OF_PLANTS: tuple[tuple[str, str, frozenset[Role]], ...] = (
     ("enter:drop", "GET", ENTERS),
     ("enter:drop", "POST", ENTERS),
     ("enter:seen", "GET", ENTERS),
+    ("enter:kept", "GET", ENTERS),
+    ("enter:kept", "POST", ENTERS),
     ("enter:mapping", "GET", ENTERS),
     ("enter:mapping", "POST", ENTERS),
     ("enter:book", "POST", ENTERS),

@@ -9,6 +9,7 @@ from __future__ import annotations
 import datetime
 from collections.abc import Callable, Iterable, Sequence
 from dataclasses import dataclass, field, replace
+from pathlib import Path
 
 from plantbal.book.changes import Changes
 from plantbal.book.ledger import BookFact
@@ -16,12 +17,13 @@ from plantbal.book.library import Book
 from plantbal.book.looking import BookMonth, Contents
 from plantbal.book.reporting import suspects_of
 from plantbal.book.results import Added, Reported, ReportState
+from plantbal.diagnosis.rounds import suspects_by_set, taken_by_set
 from plantbal.faults import Fault
 from plantbal.gates import Stop
 from plantbal.report.blocks import Block
 from plantbal.report.output import Output, parse_report
 from plantbal_office.plants.models import Plant
-from plantbal_office.shelf import book_contents, plain_book, run_settings
+from plantbal_office.shelf import KEPT, book_contents, plain_book, run_settings
 
 # How many months a preview makes the reports of, the latest ones, and how many flows it names.
 MOST_MONTHS, MOST_FLOWS = 4, 12
@@ -104,6 +106,8 @@ class ActionEffect:
         How many others change.
     fault : Fault or None
         Why there would be no report.
+    is_fresh : bool
+        Whether the report before was made anew, since the one that is kept is older than the rows.
     """
 
     month: BookMonth
@@ -112,6 +116,7 @@ class ActionEffect:
     shifts: tuple[Shift, ...] = ()
     more: int = 0
     fault: Fault | None = None
+    is_fresh: bool = False
 
 
 @dataclass(frozen=True)
@@ -210,17 +215,55 @@ def _effect(plant: Plant, book: Book, kept: Contents, then: Contents, name: str)
     """Return what an action on a copy does to a month."""
     month = then.month(name)
     assert month is not None
-    before = kept_output(plant, kept, name)
+    was = kept.month(name)
+    is_older = was is not None and was.report is ReportState.OLDER
+    try:
+        before = fresh_output(plant, name) if is_older else kept_output(plant, kept, name)
+    except Fault:
+        before, is_older = kept_output(plant, kept, name), False
     old = report_said(before) if before is not None else None
     try:
         report: Reported = next(iter(book.reports(name, settings=run_settings())))
     except Fault as fault:
-        return ActionEffect(month, old, None, fault=fault)
+        return ActionEffect(month, old, None, fault=fault, is_fresh=is_older)
     shifts = shifts_of(before, report.output)
     new = report_said(report.output, report.stops, report.holes)
-    return ActionEffect(
-        month, old, new, tuple(shifts[:MOST_FLOWS]), max(0, len(shifts) - MOST_FLOWS)
-    )
+    more = max(0, len(shifts) - MOST_FLOWS)
+    return ActionEffect(month, old, new, tuple(shifts[:MOST_FLOWS]), more, is_fresh=is_older)
+
+
+def fresh_output(plant: Plant, name: str) -> Output:
+    """Return a report of a month of what is booked now, made on a copy of the book.
+
+    Raises
+    ------
+    Fault
+        If there is none.
+    """
+
+    def make() -> Output:
+        with plain_book(plant).trial() as book:
+            return next(iter(book.reports(name, settings=run_settings()))).output
+
+    return KEPT.of(Path(plant.folder), "fresh", (name,), make)
+
+
+def suspects_now(plant: Plant, name: str) -> frozenset[str]:
+    """Return the measurements that a report of what is booked now suspects; none if there is no report."""
+    kept = book_contents(plant)
+    month = kept.month(name)
+    is_current = month is not None and month.report is ReportState.CURRENT
+    try:
+        output = kept_output(plant, kept, name) if is_current else fresh_output(plant, name)
+    except Fault:
+        return frozenset()
+    if output is None or not output.reports:
+        return frozenset()
+    blocks = output.reports
+    named = [*taken_by_set(blocks, blocks[-1])]
+    if blocks[0].whole is not None and blocks[0].whole["verdict"] == "reject":
+        named += suspects_by_set(blocks[0])
+    return frozenset(each for some in named for each in some)
 
 
 def kept_output(plant: Plant, kept: Contents, name: str) -> Output | None:

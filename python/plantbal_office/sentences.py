@@ -11,7 +11,6 @@ import datetime
 
 from django.utils import formats
 from django.utils.translation import get_language, gettext
-from django.utils.translation import gettext as _
 
 from plantbal.book.changes import Change
 from plantbal.book.ledger import BookFact
@@ -92,36 +91,17 @@ def fault_said(fault: Fault | str) -> str:
 
 def fact_said(fact: BookFact) -> str:
     """Return what a fact says."""
-    if is_english():
-        return fact.said()
-    if fact.kind == "dip":
-        mm, _at, density = fact.said().partition(" at ")
-        return _("{level} at {density}").format(level=figure(mm), density=figure(density))
-    return figure(fact.said())
+    return said(fact.said())
 
 
 def fact_error(fact: BookFact) -> str:
     """Return the error of a fact."""
-    return fact.error() if is_english() else figure(fact.error())
+    return said(fact.error())
 
 
 def change_said(change: Change) -> str:
     """Return what changes of a fact."""
-    if is_english():
-        return change.said()
-    old, new = change.old, change.new
-    if change.moved:
-        was, now = (f"{f.place} {_span(f)} {fact_said(f)}" for f in (old, new))
-    elif old.values == new.values:
-        was, now = (_("error {error}").format(error=fact_error(f)) for f in (old, new))
-    else:
-        was, now = fact_said(old), fact_said(new)
-    return _("{id}: {was} becomes {now}.").format(id=old.id, was=was, now=now).rstrip(".")
-
-
-def _span(fact: BookFact) -> str:
-    days = dict.fromkeys(map(SPOKEN.day, (fact.first, fact.last)))
-    return "–".join(days)
+    return said(change.said())
 
 
 # ---- rows that are refused

@@ -9,7 +9,7 @@ from __future__ import annotations
 
 import threading
 from collections import OrderedDict
-from collections.abc import Callable, Iterator
+from collections.abc import Callable, Iterator, Mapping
 from pathlib import Path
 from typing import Any, TypeVar
 
@@ -21,9 +21,11 @@ from plantbal.book.actions import Withheld
 from plantbal.book.expected import BookVersion
 from plantbal.book.forms import CHECKS, PENDING, there
 from plantbal.book.library import Book
-from plantbal.book.looking import Contents, MonthFacts
+from plantbal.book.looking import BookMonth, Contents, MonthFacts
+from plantbal.book.results import ReportState
 from plantbal.faults import Fault
 from plantbal.program import RunSettings
+from plantbal.schema import schema
 from plantbal_office.plants.models import Plant
 
 Made = TypeVar("Made")
@@ -155,6 +157,20 @@ def period_facts(plant: Plant, period: str) -> MonthFacts:
     return KEPT.of(Path(plant.folder), "facts", (period,), make)
 
 
-def run_settings(eliminate: int = 0) -> RunSettings:
-    """Return how the program is run for a page."""
+def run_settings(eliminate: int | None = None) -> RunSettings:
+    """Return how the program is run for a page; without a number, with that of the last report."""
     return RunSettings(eliminate=eliminate, program=settings.PLANTBAL_PROGRAM)
+
+
+def rounds_given(words: Mapping[str, str]) -> int | None:
+    """Return how many suspects a form or an address has taken out; None if it doesn't say that."""
+    text = words.get("eliminate", "")
+    return int(text) if text in map(str, range(schema().limits["most_rounds"] + 1)) else None
+
+
+def last_rounds(plant: Plant, month: BookMonth) -> int:
+    """Return with how many rounds of elimination the last report of a month was made."""
+    if month.report is ReportState.MISSING:
+        return 0
+    make = lambda: plain_book(plant).kept(month.name).rounds  # noqa: E731
+    return KEPT.of(Path(plant.folder), "rounds", (month.name,), make)

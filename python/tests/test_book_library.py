@@ -8,7 +8,7 @@ from collections.abc import Callable
 from pathlib import Path
 
 import pytest
-from books import files_of
+from books import PLANT, files_of, folder, month
 from conftest import TOP, Desk
 
 from plantbal import Book, Fault
@@ -16,6 +16,7 @@ from plantbal.book.adding import Unreasoned
 from plantbal.book.closing import NotClosed
 from plantbal.book.results import ReportState
 from plantbal.gates import Gate
+from plantbal.lint import lint_session
 from plantbal.program import RunSettings
 from plantbal.workbook.options import ReadingOptions
 
@@ -161,3 +162,34 @@ def test_the_domain_neither_prints_nor_parses() -> None:
         tree = ast.parse(path.read_text(encoding="utf-8"))
         names = {node.id for node in ast.walk(tree) if isinstance(node, ast.Name)}
         assert not names & {"argparse", "print", "input"}, path
+
+
+# What an added workbook can make look wrong, by the codes of lint.
+LOOKED_AT = ("near-names", "magnitude", "small-deviation", "large-deviation", "density")
+
+
+def test_what_looks_wrong_since_is_what_lint_finds_then_and_not_before(tmp_path: Path) -> None:
+    """`add` looks at the streams alone that it touches; lint at all of them."""
+    book = Book(tmp_path / "mill")
+    book.begin("2024", folder(tmp_path / "plant", PLANT))
+
+    def looked() -> list[tuple[str, str, str]]:
+        found = lint_session(tmp_path / "mill" / "2024.csv")
+        return [(each.code, each.text, each.remedy) for each in found if each.code in LOOKED_AT]
+
+    counts = []
+    for feed, product in [
+        ("1200", "119950"),  # one of P-1 is a hundred times too much
+        ("1200", "119950"),  # nothing new
+        ("1", "119950"),  # F-1, too
+        ("1200", "119950"),  # that one is corrected
+        ("1200", "1199.5"),  # and that of P-1
+    ]:
+        sheets = month(last=5)
+        sheets["readings"][4][1:] = [feed, product]
+        before = looked()
+        (year,) = book.add(folder(tmp_path / "april", sheets), why="typed wrong").years
+        new = [one for one in looked() if one not in before]
+        assert [(each.code, each.text, each.remedy) for each in year.doubts] == new
+        counts.append(len(new))
+    assert counts == [1, 0, 1, 0, 0]

@@ -721,6 +721,13 @@ REFINERY = [
         "14.62",
         "dips.csv: line 2, column 3 (level): the level 14.62 has decimals and no unit: 14.62 m",
     ),
+    (
+        "dips",
+        2,
+        "14620",
+        "14.6207",
+        "write 14620.7 mm if it is in m, or 15 mm if it isn't",
+    ),
     ("dips", 2, "14620", "14620.4", "was rounded"),
     (
         "dips",

@@ -378,7 +378,7 @@ CASES = [
         )
         + "report,d1\n",
         "SILO has 4 mm on 2024-03-02, and 2,000 to 2,000 mm in its 4 other dips: "
-        "if it is in metres, write 4000 mm",
+        "if it is in metres, write it in mm with all its decimals, such as 4000 mm for exactly 4 m",
     ),
     (
         "tank-jump",

@@ -269,8 +269,11 @@ class Rolled:
         """Say whether days are missing between a month and the one before it."""
         month = self.months[at]
         if at and (month.first - self.months[at - 1].last).days != 1:
-            days = f"{self.months[at - 1].last + _DAY} to {month.first - _DAY}"
-            yield f"no report has {days}: what happened then is in the stock adjustments"
+            yield Sentence(
+                "no report has {first} to {last}: what happened then is in the stock adjustments",
+                first=self.months[at - 1].last + _DAY,
+                last=month.first - _DAY,
+            )
 
 
 def _by(level: Level, entries: Iterable[Entry], key: Callable[[Entry], str]) -> list[_Draft]:

@@ -5,7 +5,7 @@ from __future__ import annotations
 import csv
 import io
 import re
-from collections.abc import Collection, Iterable, Mapping
+from collections.abc import Collection, Iterable, Mapping, Sequence
 from fractions import Fraction
 
 from plantbal.accounts.sheet import (
@@ -27,6 +27,7 @@ from plantbal.workbook.plant import PlantReader
 from plantbal.faults import InputFault, Place
 from plantbal.inert import is_computed
 from plantbal.model.plant import ENV, DeclaredPlant, Stream
+from plantbal.sentence import Sentence, counted
 from plantbal.workbook.sheets import Cell, Sheet, Value
 from plantbal.workbook.tables import Tables
 from plantbal.workbook.units import DENSITIES, GRAMS, VOLUMES
@@ -38,6 +39,14 @@ _RULES = {rule.value: rule for rule in (SplitRule.BY_RECEIPTS, SplitRule.BY_STOC
 _PART = re.compile(r"\s*(.+?)\s+(?:([0-9][0-9.,]*)\s*%|([0-9]+)/([0-9]+))\s*(?:[;,+]\s*|$)")
 _LONGEST = 60  # letters of a product, a group or an owner
 _MOST_OWNERS = 50
+
+
+def _with_and(words: Sequence[str]) -> Sentence:
+    """Return words with `and` between them."""
+    said = Sentence("{names} and {last}", names=words[0], last=words[1])
+    for word in words[2:]:
+        said = Sentence("{names} and {last}", names=said, last=word)
+    return said
 
 
 class SheetReader:
@@ -115,8 +124,8 @@ class SheetReader:
             named = [each for each in _KINDS if re.search(rf"\b{each}s?\b", word)]
             what = SheetCause.NO_KIND_OF_ACCOUNT(text=cell.text)
             if len(named) > 1:
-                what = SheetCause.TWO_KINDS_OF_ACCOUNT(name=name, kinds=" and ".join(named))
-            remedy = f"write one of {', '.join(_KINDS)}"
+                what = SheetCause.TWO_KINDS_OF_ACCOUNT(name=name, kinds=_with_and(named))
+            remedy: str = Sentence("write one of {words}", words=", ".join(_KINDS))
             if len(named) > 1:
                 remedy = "write one of them: what does both is two streams"
             raise self._fault(cell, what, remedy, "kind")
@@ -128,20 +137,22 @@ class SheetReader:
         assert self.plant is not None
         name, start, end = stream.arc.name, stream.arc.from_, stream.arc.to
         comes, goes = start == ENV, end == ENV
-        why = ""
+        why: Sentence | None = None
         if kind is AccountKind.RECEIPT and not comes:
-            why = f"it comes from {start}, within the plant"
+            why = Sentence("it comes from {start}, within the plant", start=start)
         elif kind in OUTGOING and not goes:
-            why = f"it goes to {end}, within the plant"
+            why = Sentence("it goes to {end}, within the plant", end=end)
         elif kind in (AccountKind.PRODUCTION, AccountKind.INTERNAL) and (comes or goes):
-            why = "it comes from outside" if comes else "it leaves the plant"
+            why = Sentence("it comes from outside" if comes else "it leaves the plant")
         elif kind is AccountKind.PRODUCTION and self.plant.kind_of(end) != "tank":
-            why = f"it goes to {end}, which isn't a tank"
+            why = Sentence("it goes to {end}, which isn't a tank", end=end)
         elif kind is AccountKind.PRODUCTION and self.plant.kind_of(start) != "unit":
-            why = f"it comes from {start}, which isn't a unit"
-        if why:
-            remedy = "receipts come from env, shipments, own use, flare and loss go there; "
-            remedy += "production goes from a unit to a tank; write internal for all others"
+            why = Sentence("it comes from {start}, which isn't a unit", start=start)
+        if why is not None:
+            remedy = (
+                "receipts come from env, shipments, own use, flare and loss go there; "
+                "production goes from a unit to a tank; write internal for all others"
+            )
             what = SheetCause.NOT_OF_KIND(name=name, kind=kind.value, why=why)
             raise self._fault(cell, what, remedy, "kind")
 
@@ -155,7 +166,8 @@ class SheetReader:
         word = " ".join(text.split())
         if len(word) > _LONGEST or not word.isprintable():
             what = SheetCause.NOT_SPELT(head=head, count=len(word))
-            raise self._fault(cell, what, f"write at most {_LONGEST} letters", head)
+            remedy = Sentence("write at most {count} letters", count=_LONGEST)
+            raise self._fault(cell, what, remedy, head)
         if is_computed(word):
             what = SheetCause.COMPUTED(word=word)
             raise self._fault(cell, what, "let it begin with a letter or a digit", head)
@@ -203,8 +215,11 @@ class SheetReader:
             found = _PART.match(text, at)
             if found is None or len(parts) >= _MOST_OWNERS:
                 what = SheetCause.NOT_SHARES(text=cell.text)
-                remedy = "write `Alpha 60 %; Beta 40 %`, `Alpha 1/3; Beta 2/3`, one owner, "
-                raise self._fault(cell, what, f"{remedy}`by receipts` or `by stock`", "owner")
+                remedy = (
+                    "write `Alpha 60 %; Beta 40 %`, `Alpha 1/3; Beta 2/3`, one owner, "
+                    "`by receipts` or `by stock`"
+                )
+                raise self._fault(cell, what, remedy, "owner")
             part = self._part(cell, found)
             name = self._spelling(cell, found[1], "owner")
             if name in parts:
@@ -269,11 +284,14 @@ def _lacking(tables: Tables, plant: PlantReader, known: Collection[str]) -> list
     names = [name for name in tables.session.state.plant.streams if name not in known]
     if not names:
         return []
-    shown = ", ".join(names[:12]) + (f" and {len(names) - 12:,} more" if len(names) > 12 else "")
+    shown: str = ", ".join(names[:12])
+    if len(names) > 12:
+        shown = Sentence("{names} and {count:,} more", names=shown, count=len(names) - 12)
     stream = plant.streams.get(names[0])
     place = stream.cell.place() if stream is not None else tables.sheets[SHEET][0].place()
-    are, it = ("is", "it") if len(names) == 1 else ("are", "them")
-    return [f"{place} {shown} {are} in no account: write {it} into the sheet {SHEET}"]
+    one = "{place} {names} is in no account: write it into the sheet {sheet}"
+    many = "{place} {names} are in no account: write them into the sheet {sheet}"
+    return [counted(len(names), one, many, place=place, names=shown, sheet=SHEET)]
 
 
 # ---- the file of a book
@@ -315,7 +333,9 @@ def parse_accounts(name: str, text: str) -> Accounts:
     except csv.Error as error:
         remedy = "take the file as plantbal wrote it, or from a backup"
         raise InputFault(
-            f"this isn't CSV: {error}", place=Place(file=name), remedy=remedy
+            Sentence("this isn't CSV: {error}", error=str(error)),
+            place=Place(file=name),
+            remedy=remedy,
         ) from error
     values: list[list[Value]] = [[each or None for each in row] for row in rows]
     table = Sheet(name, SHEET, list(enumerate(values, 1)), is_csv=True)
@@ -323,7 +343,7 @@ def parse_accounts(name: str, text: str) -> Accounts:
     lines = [cells for cells in table.rows() if cells]
     heads = tuple(cell.text for cell in lines[0]) if lines else ()
     if lines and heads != HEADS:
-        remedy = f"its heads are {', '.join(HEADS)}"
+        remedy = Sentence("its heads are {heads}", heads=", ".join(HEADS))
         raise InputFault("this isn't a file of accounts", place=table.place(1), remedy=remedy)
     for cells in lines[1:]:
         row = {head: Cell(table, cells[0].line, 0, None) for head in HEADS}

@@ -31,7 +31,7 @@ from plantbal.audit.carried import carried_files
 from plantbal.audit.signed import add_signing, sign_bundle
 from plantbal.audit.summary import summary_text
 from plantbal.build import build_of
-from plantbal.commands.options import add_run, add_timeout
+from plantbal.commands.options import AS_REPORTED, add_run, add_timeout
 from plantbal.commands.progress import Progress
 from plantbal.faults import Fault, Place, ProgramFault, WordsFault, read_bytes
 from plantbal.limits import SESSION_BYTES
@@ -185,7 +185,7 @@ def add_arguments(parser: argparse.ArgumentParser) -> None:
     parser.add_argument("--before", metavar="BUNDLE", help=before)
     add_signing(parser)
     add_timeout(parser)
-    add_run(parser)
+    add_run(parser, default=AS_REPORTED)
 
 
 def _write(path: str, data: bytes) -> bool:
@@ -237,6 +237,15 @@ def _fits(files: dict[str, bytes]) -> dict[str, bytes]:
     return files
 
 
+def _rounds(options: argparse.Namespace, session: bytes) -> int:
+    """Return how many suspects are taken out: of a book's session as many as of its reports."""
+    if options.eliminate is not None or options.book is None or options.no_tests:
+        return options.eliminate or 0
+    from plantbal.book.rounds import rounds_asked
+
+    return rounds_asked(options.book, session)
+
+
 def run(options: argparse.Namespace) -> int:
     """Run the session, write the bundle, and return the status."""
     import plantbal
@@ -245,13 +254,13 @@ def run(options: argparse.Namespace) -> int:
         print("reading standard input, up to Ctrl-D", file=sys.stderr)
     made, plant = bundle_time(options.time), plant_name(options)
     source, session = read_bytes(options.session, SESSION_BYTES)
+    book = named_book(options.book, session, source)
     words = words_of(
         tests=not options.no_tests,
-        eliminate=options.eliminate,
+        eliminate=_rounds(options, session),
         gap=options.gap,
         sweeps=options.sweeps,
     )
-    book = named_book(options.book, session, source)
     program = find_program(options.program)
     try:
         with Progress(options.prog, session) as progress:

@@ -8,6 +8,7 @@ from plantbal.audit.held import whole_or_none
 from plantbal.faults import Fault
 from plantbal.program import words_of
 from plantbal.report.output import Output
+from plantbal.report.rounds import rounds_shown
 
 
 def words_read(text: str) -> list[str]:
@@ -36,12 +37,9 @@ def words_shown(output: Output) -> list[str]:
     if not blocks:
         return words_of(tests=True, eliminate=0, gap=10, sweeps=5000)
     head = blocks[0].head
-    stops = [row for row in output.rows if row["row"] == "stop"]
-    # An elimination that ended by itself is the same with more rounds allowed.
-    spent = [whole_or_none(row["rounds"]) for row in stops if row["reason"] == "spent"]
     return words_of(
         tests=blocks[0].whole is not None,
-        eliminate=((spent[0] if spent else 20) or 0) if stops else 0,
+        eliminate=rounds_shown(output),
         gap=whole_or_none(head["gap"]) or 0,
         sweeps=whole_or_none(head["sweeps"]) or 0,
     )

@@ -20,14 +20,16 @@ from plantbal.accounts.trend import Unusual, unusual
 from plantbal.book.forms import ACCOUNTS, report_file, year_file
 from plantbal.book.journal import JournalLine
 from plantbal.book.overview import report_state
+from plantbal.book.remedies import BookRemedy
 from plantbal.book.results import ReportState
-from plantbal.book.said import count_said, listed, waiting_said
+from plantbal.book.said import listed, waiting_said
 from plantbal.book.store import Action, Store
 from plantbal.book.years import Years, periods_of
 from plantbal.faults import Fault, InputFault, Place
 from plantbal.model.ledger import Ledger
 from plantbal.report.blocks import Block, blocks_of, last_blocks
 from plantbal.report.parsing import parse_rows
+from plantbal.sentence import Sentence, counted, phrase
 
 _MONTHS = 13  # beside which a month is looked at, so that the same month of a year ago is one
 
@@ -55,15 +57,17 @@ def put_accounts(before: Accounts, new: Accounts, book: Store, action: Action) -
     try:
         parse_accounts(str(book.path(ACCOUNTS)), text)
     except InputFault as fault:
+        form = "with these accounts {file} would contradict itself: {what}"
         raise Fault(
-            f"with these accounts {ACCOUNTS} would contradict itself: {fault.what}",
+            Sentence(form, file=ACCOUNTS, what=phrase(fault.what)),
             remedy="write all rows of that product, or of that owner, into the sheet accounts",
         ) from fault
     action.written[ACCOUNTS] = text
     changed = [name for name, row in rows.items() if before.get(name) != row]
-    said = f"{ACCOUNTS}: {count_said(len(changed), 'row')}, new or changed"
+    one, many = "{file}: 1 row, new or changed", "{file}: {count:,} rows, new or changed"
+    said = counted(len(changed), one, many, file=ACCOUNTS)
     old = [name for name in changed if name in before]
-    return [f"{said}; changed: {listed(old)}" if old else said]
+    return [Sentence("{said}; changed: {names}", said=said, names=listed(old)) if old else said]
 
 
 # ---- the months
@@ -119,9 +123,9 @@ def version_of(book: Store, period: str, year: str, text: str) -> ReportVersion:
         if kept is not None and kept.digest == digest and rows is not None and rows.lines:
             return ReportVersion(period, year, text, rows.lines, line)
     raise InputFault(
-        f"the journal doesn't say which rows the report of {period} saw",
+        Sentence("the journal doesn't say which rows the report of {period} saw", period=period),
         place=Place(file=str(book.path(report_file(period)))),
-        remedy=f"make it again: plantbal-desk book report {period}",
+        remedy=BookRemedy.MAKE_IT_AGAIN(period=period).sentence,
     )
 
 
@@ -184,8 +188,8 @@ def _block_of(book: Store, version: ReportVersion, read: ReadBlocks) -> Block:
         of_text = last_blocks(blocks_of(parse_rows(name, version.text)))
     block = of_text.get(version.period)
     if block is None or not block.ended:
-        remedy = f"look at it: plantbal-desk book report {version.period}"
-        what = f"there are no flows of {version.period} to add up"
+        remedy = BookRemedy.LOOK_AT_REPORT(period=version.period).sentence
+        what = Sentence("there are no flows of {period} to add up", period=version.period)
         raise InputFault(what, place=Place(file=name), remedy=remedy)
     return block
 
@@ -200,7 +204,7 @@ def rolled_of(book: Store) -> Rolled:
     """
     months = report_months(book, versions_of(book))
     if not months:
-        raise Fault("no period has a report yet", remedy="plantbal-desk book report makes it")
+        raise Fault("no period has a report yet", remedy=BookRemedy.MAKE_A_REPORT().sentence)
     return Rolled(months, accounts_of(book))
 
 
@@ -238,8 +242,8 @@ def account(book: Store, period: str) -> PeriodAccount:
         ledger = Years(book).of_period(period)
         state = report_state(book, ledger, book.journal(), period)
         if state is ReportState.MISSING:
-            remedy = f"plantbal-desk book report {period}"
-            raise Fault(f"{period} has no report yet", remedy=remedy)
+            what = Sentence("{period} has no report yet", period=period)
+            raise Fault(what, remedy=BookRemedy.MAKE_REPORT(period=period).sentence)
         rolled = rolled_of(book)
         found = rolled.account(period)
         odd = tuple(unusual_of(rolled, found))

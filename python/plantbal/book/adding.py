@@ -12,6 +12,7 @@ from plantbal.book.accounting import accounts_of, put_accounts
 from plantbal.book.changes import Changes, compare, not_in_workbook, strayed
 from plantbal.book.forms import MEASURES
 from plantbal.book.declaring import put_periods, put_plant
+from plantbal.book.doubts import Doubts
 from plantbal.book.ledger import FACT_KINDS, BookFact, YearLedger, rows_text
 from plantbal.book.measures import (
     density_changes,
@@ -25,13 +26,14 @@ from plantbal.book.meters import Meter, changed_meters, meters_of, meters_text, 
 from plantbal.book.naming import Names
 from plantbal.book.reading import Given, Tabled, converted, raise_all, workbook_name
 from plantbal.book.results import Added, YearAdded
-from plantbal.book.said import closed_in, count_said, doubts, lacks_said, odd
+from plantbal.book.said import closed_in, lacks_said
 from plantbal.book.store import METERS, PLANT, Act, Action, Store
+from plantbal.book.remedies import BookRemedy
 from plantbal.book.vanished import PulledSource, lost_of
 from plantbal.book.years import Years
 from plantbal.faults import Fault, InputFault, Refusal
-from plantbal.lint import Finding
 from plantbal.model.causes import Cause
+from plantbal.sentence import Sentence, counted
 from plantbal.workbook.converter import Converter
 from plantbal.workbook.options import ReadingOptions
 from plantbal.workbook.sheets import Cell
@@ -58,9 +60,9 @@ class Unreasoned(Fault):
     """
 
     def __init__(self, count: int, changes: Sequence[str]) -> None:
-        are = "is" if count == 1 else "are"
-        what = f"{count_said(count, 'fact')} {are} booked with other values"
-        super().__init__(what, remedy='say why: --why "typed a digit short"; nothing is booked')
+        one = "1 fact is booked with other values"
+        what = counted(count, one, "{count:,} facts are booked with other values")
+        super().__init__(what, remedy=BookRemedy.SAY_WHY().sentence)
         self.changes = tuple(changes)
 
 
@@ -88,8 +90,8 @@ class _ReadWorkbook:
         What it holds.
     facts : list of BookFact
         Its facts.
-    odd : dict of str to list of Finding
-        What looked wrong in each year before it.
+    doubts : Doubts
+        What looked wrong in the years before it.
     """
 
     book: Store
@@ -101,7 +103,7 @@ class _ReadWorkbook:
     how: ReadingOptions
     work: Converter
     facts: list[BookFact]
-    odd: Mapping[str, list[Finding]]
+    doubts: Doubts
 
     @property
     def source(self) -> PulledSource | None:
@@ -136,6 +138,8 @@ def add(
         causes = tuple(_causes(read, changes))
         check_reasons(changes, strike, why, causes)
         reasons = Reasons(why)
+        touched = [*read.facts, *(fact for _, fact in changes.edited(strike))]
+        read.doubts.look_at_facts(read.years.used, (fact.place for fact in touched))
         changes.put(reasons, strike)
         raise_all(put_assays(read.years, read.work))
 
@@ -145,7 +149,7 @@ def add(
             action.written[PLANT] = rows_text(read.into.plant)
         told = _put(read, action, changes, reading)
         ledgers = read.years.used
-        parts = tuple(_year_added(read.odd, each, read.facts, read.found) for each in ledgers)
+        parts = tuple(_year_added(read.doubts, each, read.facts, read.found) for each in ledgers)
         is_booked = not dry_run and bool(action.appended or action.written)
         if is_booked:
             book.do(action)
@@ -162,8 +166,8 @@ def _read(book: Store, workbook: Given, year: str | None, reading: ReadingOption
     Fault
         If something is wrong with it, or a fact is of no year.
     """
-    before: dict[str, list[Finding]] = {}
-    years = Years(book, lambda ledger: before.update({ledger.name: odd(ledger)}))
+    doubts = Doubts()
+    years = Years(book, doubts.look_at_names)
     into = years.named(year)
     meters = read_meters(book)
     wide = any(meter.base for meter in meters.values())
@@ -176,7 +180,7 @@ def _read(book: Store, workbook: Given, year: str | None, reading: ReadingOption
     work = converted(workbook, how, into.plant, meters, periods, accounts, measures)
     facts = [BookFact.of(row) for row in work.session if row[0] in (*FACT_KINDS, "late")]
     raise_all(years.outside(facts))
-    return _ReadWorkbook(book, workbook, years, into, meters, accounts, how, work, facts, before)
+    return _ReadWorkbook(book, workbook, years, into, meters, accounts, how, work, facts, doubts)
 
 
 def _changed(read: _ReadWorkbook, strike: bool, anyway: bool) -> tuple[Changes, bool]:
@@ -240,13 +244,10 @@ def _put(
 
 
 def _year_added(
-    before: Mapping[str, list[Finding]],
-    ledger: YearLedger,
-    facts: list[BookFact],
-    meters: dict[str, Meter],
+    doubts: Doubts, ledger: YearLedger, facts: list[BookFact], meters: dict[str, Meter]
 ) -> YearAdded:
     """Return what was put to a year, what of it looks wrong, and what is missing beside it."""
-    found = doubts(before[ledger.name], ledger)
+    found = doubts.since(ledger)
     missing = lacks_said(ledger, facts, meters)
     return YearAdded(ledger.name, tuple(ledger.added), tuple(found), tuple(missing))
 
@@ -295,12 +296,10 @@ def check_most(changes: Changes, name: str) -> None:
     """
     there = changes.same + len(changes.changed) + len(changes.stale)
     if len(changes.gone) > there:
-        raise Fault(
-            f"{len(changes.gone):,} of {len(changes.gone) + there:,} facts that are booked aren't "
-            f"in {name}",
-            remedy="is it a part of the workbook? Single facts are struck by plantbal-desk book "
-            "strike; --anyway strikes all of them",
-        )
+        form = "{count:,} of {all:,} facts that are booked aren't in {name}"
+        count = len(changes.gone)
+        what = Sentence(form, count=count, all=count + there, name=name)
+        raise Fault(what, remedy=BookRemedy.STRIKE_SINGLE().sentence)
 
 
 class Reasons:
@@ -349,7 +348,8 @@ def check_reasons(
     """
     lines = [change.said() for change in [*changes.changed, *changes.left]]
     if strike:
-        lines += [f"{fact.id}: {fact.said()} is struck" for _, fact in changes.gone]
+        form = "{id}: {was} is struck"
+        lines += [Sentence(form, id=fact.id, was=fact.said()) for _, fact in changes.gone]
     if lines and not why:
         raise Unreasoned(len(set(lines)), [*causes, *dict.fromkeys(lines)])
 
@@ -370,7 +370,7 @@ def put_assays(years: Years, work: Converter) -> list[Fault]:
         except Refusal as refusal:
             refusal.place = (cells.get(refusal.column) or cells["period"]).place()
             if refusal.code == Cause.CLOSED:
-                refusal.remedy = "enter assays before plantbal-desk book close: take it out"
+                refusal.remedy = BookRemedy.ASSAYS_BEFORE_CLOSE().sentence
             faults.append(refusal)
         except InputFault as fault:
             faults.append(fault)
@@ -397,14 +397,25 @@ def _put_assay(years: Years, row: tuple[str, ...], cells: Mapping[str, Cell]) ->
     if there is None:
         ledger.put(*row)
     elif there != (int(row[4]), int(row[5])):
-        remedy = "a booked assay can't be amended or struck: correct the workbook"
-        if ledger.periods[period].closed:
-            remedy += f"; {period} is closed, so its assays stay as they are"
-        else:
-            remedy += ", or if the book is wrong, put back its folder from before that assay"
-        raise InputFault(
-            f"{stream} has {there[0]:,} ppm of {component} in {period} in the book, and "
-            f"{int(row[4]):,} ppm in the workbook, or another error",
-            place=cells["ppm"].place(),
-            remedy=remedy,
+        remedy = Sentence(
+            (
+                "a booked assay can't be amended or struck: correct the workbook; {period} is "
+                "closed, so its assays stay as they are"
+            )
+            if ledger.periods[period].closed
+            else (
+                "a booked assay can't be amended or struck: correct the workbook, or if the book "
+                "is wrong, put back its folder from before that assay"
+            ),
+            period=period,
         )
+        what = Sentence(
+            "{stream} has {there:,} ppm of {component} in {period} in the book, and {here:,} ppm in "
+            "the workbook, or another error",
+            stream=stream,
+            there=there[0],
+            component=component,
+            period=period,
+            here=int(row[4]),
+        )
+        raise InputFault(what, place=cells["ppm"].place(), remedy=remedy)

@@ -11,9 +11,11 @@ from collections.abc import Iterable, Mapping, Sequence
 from dataclasses import dataclass, field
 
 from plantbal.book.journal import Act, JournalLine
+from plantbal.book.remedies import BookRemedy
 from plantbal.faults import Fault
 from plantbal.gates import Gate, Stop, about, said_of_stop
 from plantbal.lint.findings import RULES, Finding
+from plantbal.sentence import Joined, Phrase, Sentence
 
 # The word before the gates of a close, and what stands between their reasons.
 ANYWAY = "anyway"
@@ -52,8 +54,8 @@ def reasons_of(texts: Iterable[str]) -> dict[Gate, str]:
         word, _, reason = (part.strip() for part in text.partition("="))
         if word not in list(Gate):
             words = ", ".join(gate.value for gate in Gate)
-            remedy = f"write GATE=REASON; the gates are {words}"
-            raise Fault(f"{word!r} isn't a gate", text=text, remedy=remedy)
+            remedy = Sentence("write GATE=REASON; the gates are {words}", words=words)
+            raise Fault(Sentence("{word!r} isn't a gate", word=word), text=text, remedy=remedy)
         found[Gate(word)] = checked_reason(reason)
     return found
 
@@ -69,7 +71,8 @@ def checked_reason(reason: str) -> str:
     if not reason.strip():
         raise Fault("there is no reason", remedy="say why, in a few words")
     if BETWEEN.strip() in reason:
-        raise Fault(f"{reason!r} has a {BETWEEN.strip()}", remedy="write it without that")
+        what = Sentence("{reason!r} has a {mark}", reason=reason, mark=BETWEEN.strip())
+        raise Fault(what, remedy="write it without that")
     return reason.strip()
 
 
@@ -105,8 +108,9 @@ def stopped_said(stops: Sequence[Stop], unanswered: Sequence[Gate]) -> tuple[str
     """Return what stops an action for which some gates have no reason, and the words that give one."""
     mine = [stop for stop in stops if stop.gate in unanswered]
     why = [said_of_stop(stop) for stop in mine[:_MOST]]
-    why += [f"{len(mine) - _MOST:,} more"] if len(mine) > _MOST else []
-    return "; ".join(why), " ".join(f"--anyway '{gate}=REASON'" for gate in unanswered)
+    if len(mine) > _MOST:
+        why.append(Sentence("{count:,} more", count=len(mine) - _MOST))
+    return Joined("; ", why), " ".join(f"--anyway '{gate}=REASON'" for gate in unanswered)
 
 
 # ---- quiet
@@ -160,15 +164,17 @@ def checked_rule(code: str, names: Sequence[str]) -> None:
     """
     if code not in RULES or RULES[code].severity == "error":
         words = ", ".join(code for code, rule in RULES.items() if rule.severity != "error")
-        raise Fault(
-            f"{code!r} isn't a rule that can be quieted", text=code, remedy=f"use one of {words}"
-        )
+        what = Sentence("{code!r} isn't a rule that can be quieted", code=code)
+        raise Fault(what, text=code, remedy=Sentence("use one of {words}", words=words))
     if code in list(Gate) and not Gate(code).is_of_names:
-        remedy = f"give it at each close: --anyway '{code}=REASON'"
-        raise Fault(f"{code}: {about(Gate(code))} is of a single month", text=code, remedy=remedy)
+        what = Sentence(
+            "{code}: {about} is of a single month", code=code, about=Phrase(about(Gate(code)))
+        )
+        raise Fault(what, text=code, remedy=BookRemedy.ANSWER_AT_CLOSE(gate=code).sentence)
     if not names:
         remedy = "name the streams, tanks or units for which it is quieted"
-        raise Fault(f"{code} can be quieted only for names", text=code, remedy=remedy)
+        what = Sentence("{code} can be quieted only for names", code=code)
+        raise Fault(what, text=code, remedy=remedy)
 
 
 def without_quiet(

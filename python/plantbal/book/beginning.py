@@ -17,6 +17,7 @@ from plantbal.book.measures import put_measures
 from plantbal.book.meters import meters_of, meters_text
 from plantbal.book.reading import check_faults, sheets_of
 from plantbal.book.mapping import put_reading
+from plantbal.book.remedies import BookRemedy
 from plantbal.book.results import Begun
 from plantbal.book.store import METERS, PLANT, Act, Action, Store
 from plantbal.book.years import calendar_year
@@ -24,6 +25,7 @@ from plantbal.faults import Fault, InputFault, Place
 from plantbal.model.forms import FIRST_DAY, LAST_DAY
 from plantbal.program import call
 from plantbal.report.parsing import parse_rows
+from plantbal.sentence import Sentence
 from plantbal.workbook.conversion import NO_STREAMS, Conversion
 from plantbal.workbook.converter import Converter
 from plantbal.workbook.options import ReadingOptions
@@ -73,10 +75,8 @@ def check_nothing_is_there(book: Store, year: str) -> None:
         If it is so.
     """
     if book.has(JOURNAL):
-        raise Fault(
-            f"there is a book in {book.folder.resolve()} already",
-            remedy="plantbal-desk book add WORKBOOK adds to it",
-        )
+        what = Sentence("there is a book in {folder} already", folder=str(book.folder.resolve()))
+        raise Fault(what, remedy=BookRemedy.ADD_WORKBOOK().sentence)
     for name in book.remains():
         kind = book.text(name).partition("\n")[0].partition(",")[0]
         if is_year_file(name) and name != year_file(year) and kind not in PLANT_KINDS:
@@ -84,8 +84,7 @@ def check_nothing_is_there(book: Store, year: str) -> None:
         raise InputFault(
             "it already exists, and isn't overwritten",
             place=Place(file=str(book.path(name))),
-            remedy="if it is of a book whose journal is lost, put back journal.csv from a backup; "
-            "otherwise move it away, or name another folder with --book",
+            remedy=BookRemedy.PUT_BACK_OR_MOVE().sentence,
         )
 
 
@@ -98,8 +97,9 @@ def check_year(name: str) -> None:
         If it is none.
     """
     if not is_year(name) or (len(name) == 4 and calendar_year(name) is None):
-        remedy = f"write four digits, {FIRST_DAY.year} to {LAST_DAY.year}, or more: 2024, 2024-2"
-        raise Fault(f"{name!r} isn't a year", text=name, remedy=remedy)
+        form = "write four digits, {first} to {last}, or more: 2024, 2024-2"
+        remedy = Sentence(form, first=FIRST_DAY.year, last=LAST_DAY.year)
+        raise Fault(Sentence("{year!r} isn't a year", year=name), text=name, remedy=remedy)
 
 
 def plant_rows_of(

@@ -34,8 +34,10 @@ from plantbal.book.forms import (
     is_year_file,
 )
 from plantbal.book.journal import Act, JournalLine, Kept
+from plantbal.book.remedies import BookRemedy
 from plantbal.causes import CausedFault, Causes
 from plantbal.faults import InputFault, Place
+from plantbal.sentence import Sentence, counted, phrase
 
 _DIGITS = re.compile(r"(?:[0-9a-f]{8})+")  # of the lines of a file
 _SHOWN = 200  # characters of a row
@@ -96,18 +98,21 @@ class FileDifference:
 
     def said(self) -> str:
         """Return where it differs and how."""
-        return f"line {self.line:,}: {self.what}" if self.line is not None else self.what
+        if self.line is None:
+            return self.what
+        return Sentence("line {line:,}: {what}", line=self.line, what=phrase(self.what))
 
     def fault(self, folder: Path) -> InputFault:
         """Return it as a fault, with what to do about it."""
-        stood = f"; there stood {self.stood}" if self.stood else ""
         back = "put the file back as it was, from a backup"
-        remedy = "move it away" if self.is_unknown else back
+        remedy = Sentence("move it away" if self.is_unknown else back)
         if self.acceptable:
-            stay = f"plantbal-desk book accept {self.file} --why TEXT"
-            remedy += f"; if it is to stay as it is: {stay}, which the journal shows for good"
+            remedy = BookRemedy.ACCEPT_FILE(remedy=remedy, file=self.file).sentence
         place = Place(file=str(folder / self.file), line=self.line)
-        return InputFault(self.what + stood, place=place, remedy=remedy)
+        what = self.what
+        if self.stood:
+            what = Sentence("{what}; there stood {stood}", what=phrase(what), stood=self.stood)
+        return InputFault(what, place=place, remedy=remedy)
 
 
 # What a person may write into a book's folder, so that it may be taken as it is.
@@ -179,15 +184,16 @@ class Chain:
         for name, kept in state_of(self.lines).items():
             data = self._read(name)
             if data is None:
-                last = self._last(name).said()
-                yield FileDifference(name, None, f"it no longer exists; {last} wrote it last")
+                form = "it no longer exists; {last} wrote it last"
+                yield FileDifference(name, None, Sentence(form, last=self._last(name).said()))
             elif len(data) != kept.size or hashlib.sha256(data).hexdigest() != kept.digest:
                 yield self._difference(name, data)
             elif whole and is_year_file(name):
                 at = self._first_wrong(name, data)
                 if at is not None:
                     line, _, now = at
-                    what = f"{line.said()} names other rows up to {now.lines}"
+                    form = "{action} names other rows up to {rows}"
+                    what = Sentence(form, action=line.said(), rows=now.lines)
                     yield FileDifference(name, now.lines, what)
 
     def _cut(self) -> Iterable[FileDifference]:
@@ -195,8 +201,11 @@ class Chain:
         had = len(read_checks(self._checks()).get(JOURNAL, "")) // 8 - 1
         there = len(self.lines) + 1
         if had > there:
-            gone = "a line is" if had == there + 1 else f"{had - there:,} lines are"
-            what = f"it is cut here: {gone} gone that the last command left"
+            what = counted(
+                had - there,
+                "it is cut here: a line is gone that the last command left",
+                "it is cut here: {count:,} lines are gone that the last command left",
+            )
             yield FileDifference(JOURNAL, there + 1, what)
 
     def _history(self, name: str) -> list[tuple[JournalLine, Kept]]:
@@ -234,26 +243,41 @@ class Chain:
             last, left_then = self._history(name)[-1]
             at = (left_then.lines or 0) + 1
             more = data.count(b"\n") + 1 - at
-            more_said = "there is 1 line" if more == 1 else f"there are {more:,} lines"
-            what = f"{more_said} after what {last.said()} left"
-            return FileDifference(name, at, f"{what}: {_shown(data, at)}")
+            what = counted(
+                more,
+                "there is 1 line after what {action} left: {shown}",
+                "there are {count:,} lines after what {action} left: {shown}",
+                action=last.said(),
+                shown=_shown(data, at),
+            )
+            return FileDifference(name, at, what)
         line, before, kept = wrong
         first, last_line = (before.lines or 0) + 1, kept.lines or 0
         number = self._line_by_checks(name, data, first, last_line)
-        left = f"what {line.said()} left"
         if number is None:
-            place = f" in its lines {first:,} to {last_line:,}" if last_line > first else ""
             there = data.count(b"\n")
-            less = f", and has {there:,} lines in place of {kept.lines:,}"
-            what = f"it isn't {left}{place}{less if there < last_line else ''}"
+            form = (
+                "it isn't what {action} left in its lines {first:,} to {last:,}"
+                if last_line > first
+                else "it isn't what {action} left"
+            )
+            what = Sentence(form, action=line.said(), first=first, last=last_line)
+            if there < last_line:
+                form = "{what}, and has {there:,} lines in place of {lines:,}"
+                what = Sentence(form, what=what, there=there, lines=kept.lines)
             return FileDifference(name, first if first == last_line else None, what)
         stood = self._stood(name, kept, number)
         if number > data.count(b"\n"):
-            gone = last_line - number + 1
-            lines = "the last line is" if gone == 1 else f"the last {gone:,} lines are"
-            what = f"it is cut here: {lines} gone of {left}"
+            what = counted(
+                last_line - number + 1,
+                "it is cut here: the last line is gone of what {action} left",
+                "it is cut here: the last {count:,} lines are gone of what {action} left",
+                action=line.said(),
+            )
             return FileDifference(name, number, what, stood)
-        return FileDifference(name, number, f"this isn't {left}: {_shown(data, number)}", stood)
+        form = "this isn't what {action} left: {shown}"
+        what = Sentence(form, action=line.said(), shown=_shown(data, number))
+        return FileDifference(name, number, what, stood)
 
     def _line_by_checks(self, name: str, data: bytes, first: int, last: int) -> int | None:
         """Return the first line of some that differs, by the digits of each."""
@@ -273,7 +297,7 @@ class Chain:
         for path in sorted(self.folder.glob("*.zip")):
             data = _of_bundle(path, inner)[: kept.size]
             if hashlib.sha256(data).hexdigest() == kept.digest:
-                return f"{_shown(data, number)} (by {path.name})"
+                return Sentence("{row} (by {name})", row=_shown(data, number), name=path.name)
         return self._edit(number) if is_year_file(name) else ""
 
     def _edit(self, number: int) -> str:
@@ -285,7 +309,7 @@ class Chain:
                 continue
             for at, line in enumerate(data.split(b"\n"), start=1):
                 if line.startswith(begin):
-                    return f"what {name} calls {_shown(data, at)}"
+                    return Sentence("what {name} calls {row}", name=name, row=_shown(data, at))
         return ""
 
 

@@ -10,6 +10,7 @@ from plantbal.book.ledger import BookFact, YearLedger
 from plantbal.book.years import Years
 from plantbal.estimates import is_marked
 from plantbal.faults import Fault
+from plantbal.sentence import Day, Joined, Sentence
 from plantbal.session import Period
 from plantbal.workbook.converter import Converter
 
@@ -38,15 +39,23 @@ class Change:
     def said(self) -> str:
         """Return what changes."""
         if self.moved:
-            days = [f"{fact.place} {_days(fact)} {fact.said()}" for fact in (self.old, self.new)]
-            return f"{self.old.id}: {days[0]} becomes {days[1]}"
+            was, now = (Joined(" ", _parts(fact)) for fact in (self.old, self.new))
+            return Sentence("{id}: {was} becomes {now}", id=self.old.id, was=was, now=now)
         if self.old.values == self.new.values:
-            return f"{self.old.id}: its error {self.old.error()} becomes {self.new.error()}"
-        return f"{self.old.id}: {self.old.said()} becomes {self.new.said()}"
+            form = "{id}: its error {was} becomes {now}"
+            return Sentence(form, id=self.old.id, was=self.old.error(), now=self.new.error())
+        form = "{id}: {was} becomes {now}"
+        return Sentence(form, id=self.old.id, was=self.old.said(), now=self.new.said())
+
+
+def _parts(fact: BookFact) -> tuple[str, str, str]:
+    """Return where a fact is, when, and what it says."""
+    return fact.place, _days(fact), fact.said()
 
 
 def _days(fact: BookFact) -> str:
-    return str(fact.first) if fact.first == fact.last else f"{fact.first} to {fact.last}"
+    first, last = Day(fact.first), Day(fact.last)
+    return first if first == last else Sentence("{first} to {last}", first=first, last=last)
 
 
 class ReasonGiver(Protocol):
@@ -106,7 +115,11 @@ class Changes:
             Whether facts that are gone are struck.
         """
         for ledger, fact in self.gone if strike else ():
-            ledger.put("strike", fact.id, reason(fact, f"{fact.id} is struck", is_gone=True))
+            ledger.put(
+                "strike",
+                fact.id,
+                reason(fact, Sentence("{id} is struck", id=fact.id), is_gone=True),
+            )
         for change in self.left:
             change.ledger.put("strike", change.old.id, reason(change.old, change.said()))
         for change in self.changed:
@@ -191,12 +204,11 @@ def strayed(years: Years, changes: Changes, facts: list[BookFact]) -> Iterator[F
     for change in [*changes.changed, *changes.left]:
         if change.moved and not any(_touches(change.old, period) for _, period in scope):
             old = change.old
-            yield Fault(
-                f"{change.new.id}: the book has a ticket of this id already, of {old.place} on "
-                f"{_days(old)}",
-                text=change.new.id,
-                remedy=f"give it another id, such as {change.new.first:%Y-%m}-{change.new.id}",
-            )
+            form = "{id}: the book has a ticket of this id already, of {place} on {days}"
+            what = Sentence(form, id=change.new.id, place=old.place, days=_days(old))
+            such = f"{change.new.first:%Y-%m}-{change.new.id}"
+            remedy = Sentence("give it another id, such as {such}", such=such)
+            yield Fault(what, text=change.new.id, remedy=remedy)
 
 
 def not_in_workbook(

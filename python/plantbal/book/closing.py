@@ -15,14 +15,17 @@ from plantbal.book.approval.state import rules_of
 from plantbal.book.answers import checked_reason, quieted, reason_cells, stopped_said
 from plantbal.book.forms import report_file
 from plantbal.book.meters import read_meters
+from plantbal.book.remedies import BookRemedy
 from plantbal.book.reporting import report_of, stops_in, write_and_keep
 from plantbal.book.results import Closed, Reported
+from plantbal.book.rounds import settled
 from plantbal.book.said import lacks, unassayed
 from plantbal.book.store import Act, Action, Store
 from plantbal.book.years import Years
 from plantbal.faults import Fault
 from plantbal.gates import Gate, Stop, about
 from plantbal.program import RunSettings
+from plantbal.sentence import Phrase, Sentence
 
 
 class NotClosed(Fault):
@@ -38,10 +41,8 @@ class NotClosed(Fault):
 
     def __init__(self, report: Reported, unanswered: Sequence[Gate]) -> None:
         why, words = stopped_said(report.stops, unanswered)
-        super().__init__(
-            f"{report.period} isn't closed: {why}",
-            remedy=f"put that right first, or say why it is closed all the same: {words}",
-        )
+        what = Sentence("{period} isn't closed: {why}", period=report.period, why=why)
+        super().__init__(what, remedy=BookRemedy.CLOSE_ANYWAY(words=words).sentence)
         self.report = report
         self.unanswered = tuple(unanswered)
 
@@ -76,7 +77,7 @@ def submit(
         found = prepared(book, name, anyway=anyway, settings=settings, who=who)
         if found is None:
             return Closed(name, None)
-        done = submission.submit_action(book, *_submitted(book, found), **_about(found, settings))
+        done = submission.submit_action(book, *_submitted(book, found), **_about(found))
         return Closed(name, found.report, done.head, found.reasons)
 
 
@@ -92,10 +93,9 @@ def close_to_sign(
     with book.opened(reading=True):
         found = prepared(book, name, anyway=anyway, settings=settings, who=who)
         if found is None:
-            raise Fault(f"{name} is closed already", remedy="there is nothing to sign")
-        return submission.submission_to_sign(
-            book, *_submitted(book, found), **_about(found, settings)
-        )
+            what = Sentence("{name} is closed already", name=name)
+            raise Fault(what, remedy="there is nothing to sign")
+        return submission.submission_to_sign(book, *_submitted(book, found), **_about(found))
 
 
 def _submitted(book: Store, found: PreparedClose) -> tuple[Action, list[Want]]:
@@ -105,8 +105,8 @@ def _submitted(book: Store, found: PreparedClose) -> tuple[Action, list[Want]]:
     return found.action, wants or [Want.CLOSE]
 
 
-def _about(found: PreparedClose, settings: RunSettings) -> _About:
-    return {"periods": [found.report.period], "reasons": found.reasons, "settings": settings}
+def _about(found: PreparedClose) -> _About:
+    return {"periods": [found.report.period], "reasons": found.reasons, "settings": found.settings}
 
 
 class _About(TypedDict):
@@ -139,12 +139,15 @@ class PreparedClose:
         The reason for each gate.
     text : str
         The report as the program writes it.
+    settings : RunSettings
+        How its session was run, with a number of rounds.
     """
 
     action: Action
     report: Reported
     reasons: Mapping[Gate, str]
     text: str
+    settings: RunSettings
 
 
 def prepared(
@@ -165,7 +168,8 @@ def prepared(
     ledger.put("close", name)
     text = book.text(f"{ledger.name}.csv") + ledger.added_text()
     components = ledger.session.components_in(name)
-    written, output = report_of(settings, text, name, components)
+    how = settled(book, report_file(name), settings)
+    written, output = report_of(how, text, name, components)
     stops = stops_in(text, name, output, quieted(book.journal()))
     stops += [Stop(Gate.UNASSAYED, name, subject=line) for line in owed]
     path = book.path(report_file(name))
@@ -176,12 +180,12 @@ def prepared(
         raise NotClosed(report, unanswered)
     reasons = {gate: checked_reason(anyway[gate]) for gate in gates}
     what, why = reason_cells(reasons)
-    action = Action(Act.CLOSE, name, what, why, who, program_digest(settings.program))
+    action = Action(Act.CLOSE, name, what, why, who, program_digest(how.program))
     action.anyway = any(gate is not Gate.ESTIMATED for gate in gates)
     action.estimated = estimated_part(report)
     action.add(ledger)
     write_and_keep(book, action, ledger, name, written, closed=False)
-    return PreparedClose(action, report, reasons, written)
+    return PreparedClose(action, report, reasons, written, how)
 
 
 def estimated_part(report: Reported) -> Fraction:
@@ -199,8 +203,9 @@ def estimated_part(report: Reported) -> Fraction:
 
 def unneeded(given: Mapping[Gate, str], found: Closed) -> list[str]:
     """Return which reasons a close didn't need, in sentences."""
+    form = "{period}: the reason for {gate} isn't kept: it isn't so that {about}"
     return [
-        f"{found.period}: the reason for {gate} isn't kept: it isn't so that {about(gate)}"
+        Sentence(form, period=found.period, gate=gate.value, about=Phrase(about(gate)))
         for gate in given
         if gate not in found.reasons
     ]

@@ -12,6 +12,7 @@ from plantbal.program import call
 from plantbal.records import text_of
 from plantbal.report.parsing import parse_rows
 from plantbal.schema import schema
+from plantbal.sentence import Sentence
 
 _DAY = datetime.timedelta(1)
 _MOST = schema().limits["most_units_and_tanks"]
@@ -75,5 +76,6 @@ def _reckoned(
     refused = [row for row in answer if row["row"] == "refused"]
     if status or refused:
         said = text_of(texts[int(refused[0]["at"]) - 1]) if refused else "a row"
-        raise Fault(f"the contents of tanks can't be calculated: {said} is refused", text=said)
+        form = "the contents of tanks can't be calculated: {row} is refused"
+        raise Fault(Sentence(form, row=said), text=said)
     return {row["name"]: int(row["value"]) for row in answer if row["row"] == "stream"}

@@ -6,11 +6,12 @@ import calendar
 import datetime
 
 from plantbal.book.ledger import PLANT_KINDS, BookFact, YearLedger
-from plantbal.book.reading import ANOTHER_VALUE
+from plantbal.book.remedies import BookRemedy
 from plantbal.book.years import Years
 from plantbal.faults import Fault, Refusal
 from plantbal.model.causes import Reason
 from plantbal.records import text_of
+from plantbal.sentence import Sentence, phrase
 from plantbal.session import Period
 from plantbal.workbook.converter import Converter
 
@@ -34,12 +35,10 @@ def put_plant(ledger: YearLedger, work: Converter) -> int:
             continue
         if row[1] in names and row[0] != "strap":
             was = text_of(names[row[1]])
-            raise Fault(
-                f"{row[1]} is {text_of(row)} in the workbook and {was} in {ledger.name}.csv",
-                text=text_of(row),
-                remedy="what is declared stays to the end of a year: begin the next one by "
-                "plantbal-desk book next YEAR --plant WORKBOOK",
-            )
+            form = "{name} is {here} in the workbook and {was} in {year}.csv"
+            here = text_of(row)
+            what = Sentence(form, name=row[1], here=here, was=was, year=ledger.name)
+            raise Fault(what, text=here, remedy=BookRemedy.DECLARED_STAYS().sentence)
         try:
             ledger.put(*row)
         except Refusal as refusal:
@@ -51,14 +50,13 @@ def put_plant(ledger: YearLedger, work: Converter) -> int:
 
 def _instead(row: tuple[str, ...], refusal: Refusal) -> str:
     """Return what to do if a year doesn't take a row of the plant any more."""
-    then = "plantbal-desk book next YEAR --plant WORKBOOK"
     if row[0] == "version":
-        return f"dates of service and boundaries come with the next year: {then}"
+        return BookRemedy.SERVICE_COMES_NEXT().sentence
     if row[0] == "critical":
-        return ANOTHER_VALUE
+        return BookRemedy.DECLARED_STAYS_HERE().sentence
     if refusal.refused.reason is Reason.DAYS_SEALED:
         return "write a day after the closed periods into its column since"
-    return f"what is new of the plant comes before the first close, or with the next year: {then}"
+    return BookRemedy.PLANT_COMES_NEXT().sentence
 
 
 def put_periods(years: Years, work: Converter, facts: list[BookFact]) -> None:
@@ -92,30 +90,31 @@ def _within(period: Period, day: datetime.date) -> bool:
 def _put_period(years: Years, name: str, first: datetime.date, last: datetime.date) -> None:
     ledger = years.of_day(last)
     if ledger is None or years.of_day(first) is not ledger:
-        raise Fault(
-            f"the period {name} goes from {first} to {last}, and isn't within a year of this book",
-            text=name,
-            remedy="cut it where the year ends, or begin the next: plantbal-desk book next",
-        )
+        form = "the period {name} goes from {first} to {last}, and isn't within a year of this book"
+        what = Sentence(form, name=name, first=first, last=last)
+        raise Fault(what, text=name, remedy=BookRemedy.BEGIN_YEAR().sentence)
     others = [span.name for span in years.spans if name in span.periods]
     if others and ledger.name not in others:
-        raise Fault(
-            f"{others[0]} has a period {name} already",
-            text=name,
-            remedy=f"give it another name, such as {ledger.name}-{name}",
-        )
+        what = Sentence("{year} has a period {name} already", year=others[0], name=name)
+        remedy = Sentence("give it another name, such as {such}", such=f"{ledger.name}-{name}")
+        raise Fault(what, text=name, remedy=remedy)
     there = ledger.periods.get(name)
     if there is None:
         try:
             ledger.put("period", name, str(first), str(last))
         except Refusal as refusal:
-            refusal.remedy += ", or write the periods into a sheet periods"
+            form = "{remedy}, or write the periods into a sheet periods"
+            refusal.remedy = Sentence(form, remedy=phrase(refusal.remedy))
             raise
     elif (there.first, there.last) != (first.toordinal(), last.toordinal()):
         day = datetime.date.fromordinal
-        raise Fault(
-            f"the period {name} goes from {first} to {last} in the workbook, "
-            f"and from {day(there.first)} to {day(there.last)} in the book",
-            text=name,
-            remedy="correct the sheet periods",
+        what = Sentence(
+            "the period {name} goes from {first} to {last} in the workbook, and from {was} to {end} "
+            "in the book",
+            name=name,
+            first=first,
+            last=last,
+            was=day(there.first),
+            end=day(there.last),
         )
+        raise Fault(what, text=name, remedy="correct the sheet periods")

@@ -31,10 +31,12 @@ from plantbal.book.causes import DifferingFact, causes_of, with_causes
 from plantbal.book.forms import earlier_file, posted_file, report_file, year_file
 from plantbal.book.journal import JournalLine, Kept
 from plantbal.book.overview import report_state
+from plantbal.book.remedies import BookRemedy
 from plantbal.book.results import ReportState
 from plantbal.book.store import Act, Store
 from plantbal.book.years import Years
 from plantbal.faults import Fault, InputFault, Place, WordsFault
+from plantbal.sentence import Sentence
 
 NOW, POSTED = "now", "posted"
 
@@ -120,8 +122,8 @@ def difference_of(book: Store, period: str, words: Sequence[str]) -> Difference:
     versions = versions_of(book)
     if period not in versions:
         Years(book).of_period(period)
-        remedy = f"plantbal-desk book report {period}"
-        raise Fault(f"{period} has no report yet", remedy=remedy)
+        what = Sentence("{period} has no report yet", period=period)
+        raise Fault(what, remedy=BookRemedy.MAKE_REPORT(period=period).sentence)
     if len(words) == 1:
         raise WordsFault("FROM is there, and TO is missing", remedy="give both, or neither")
     one, other = words or (_default(book, period), NOW)
@@ -175,8 +177,15 @@ def _side(book: Store, versions: dict[str, ReportVersion], period: str, word: st
     name = earlier_file(period, int(word)) if word.isdecimal() else ""
     if not name or not book.has(name):
         count = _earlier(book, period)
-        there = f"1 to {count}, " if count > 1 else "1, " if count else ""
-        raise Fault(f"there is no report {word} of {period}", remedy=f"use {there}posted or now")
+        form = (
+            "use 1 to {count}, posted or now"
+            if count > 1
+            else "use 1, posted or now"
+            if count
+            else "use posted or now"
+        )
+        what = Sentence("there is no report {word} of {period}", word=word, period=period)
+        raise Fault(what, remedy=Sentence(form, count=count))
     year = versions[period].year
     return _of_version(book, versions, version_of(book, period, year, book.text(name)), word)
 

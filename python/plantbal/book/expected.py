@@ -7,7 +7,7 @@ from dataclasses import dataclass
 
 from plantbal.book.journal import JournalLine
 from plantbal.faults import Fault
-from plantbal.sentence import Sentence, phrase
+from plantbal.sentence import Joined, Sentence, phrase
 
 # How many actions of others are said.
 _MOST = 3
@@ -54,11 +54,12 @@ class Moved(Fault):
     """
 
     def __init__(self, since: Sequence[JournalLine]) -> None:
-        said = "; ".join(line.said() for line in since[:_MOST])
-        said += f"; and {len(since) - _MOST:,} more" if len(since) > _MOST else ""
+        done = [line.said() for line in since[:_MOST]]
+        if len(since) > _MOST:
+            done.append(Sentence("and {count:,} more", count=len(since) - _MOST))
         what = "the book was changed since you were shown it, and nothing was booked"
-        done = Sentence("{what}: {done}", what=phrase(what), done=said) if said else what
-        super().__init__(done, remedy="look at it again")
+        said = Sentence("{what}: {done}", what=phrase(what), done=Joined("; ", done))
+        super().__init__(said if done else what, remedy="look at it again")
         self.since = tuple(since)
 
 

@@ -20,12 +20,14 @@ from plantbal.book.ledger import BookFact, YearLedger, number_with_commas, rows_
 from plantbal.book.mapping import mapping_of, put_reading
 from plantbal.book.measures import keep_measures, put_measures
 from plantbal.book.meters import meters_of, meters_text, read_meters
+from plantbal.book.remedies import BookRemedy
 from plantbal.book.results import Begun
 from plantbal.book.store import METERS, PLANT, Act, Action, Store
 from plantbal.book.years import Years, calendar_year, periods_of
 from plantbal.faults import Fault, InputFault, Place, Refusal
 from plantbal.model.forms import FIRST_DAY, LAST_DAY
 from plantbal.records import read_records
+from plantbal.sentence import Day, Figure, Sentence, phrase
 from plantbal.workbook.options import ReadingOptions
 
 _DAY = datetime.timedelta(1)
@@ -99,7 +101,9 @@ def _follow(
             return Begun(year, 0, {}, is_begun=False)
         old = Years(book).last
         if year <= old.name:
-            what = f"{year} doesn't come after {old.name}, the last year"
+            what = Sentence(
+                "{year} doesn't come after {last}, the last year", year=year, last=old.name
+            )
             raise Fault(what, text=year, remedy="name a later one")
         first = first_day(year, first, book.text(f"{old.name}.csv"), old)
         action = Action(Act.NEXT, year, who=who)
@@ -126,16 +130,17 @@ def first_day(name: str, wanted: datetime.date | None, text: str, old: YearLedge
     periods = periods_of(f"{old.name}.csv", text)
     eve = max((last for _, last in periods.values()), default=None)
     if eve is None:
-        raise Fault(f"{old.name} has no period yet", remedy="add its workbooks first")
+        what = Sentence("{year} has no period yet", year=old.name)
+        raise Fault(what, remedy="add its workbooks first")
     year = calendar_year(name)
     first = eve + _DAY
     if wanted is None:
         wanted = first if year is None else datetime.date(year, 1, 1)
     if wanted != first:
-        raise Fault(
-            f"the last period of {old.name} ends on {eve}, and {name} begins on {wanted}",
-            remedy=f"add what lies between to {old.name} first, or use --first {first}",
-        )
+        form = "the last period of {year} ends on {eve}, and {name} begins on {wanted}"
+        what = Sentence(form, year=old.name, eve=eve, name=name, wanted=wanted)
+        remedy = BookRemedy.FILL_OR_FIRST(year=old.name, first=first).sentence
+        raise Fault(what, remedy=remedy)
     return first
 
 
@@ -180,7 +185,8 @@ def begun(
     for record in read_records(text.encode("utf-8")):
         if record.fields not in new.plant:
             place = Place(file=file, line=record.line)
-            raise InputFault(f"a plant file can't contain a {record.fields[0]} row", place=place)
+            form = "a plant file can't contain a {kind} row"
+            raise InputFault(Sentence(form, kind=record.fields[0]), place=place)
     return new, notes
 
 
@@ -203,10 +209,11 @@ def dated(
     """
     kept = [row for row in rows if row[0] != "version"]
     if not any(row[0] in ("tank", "stream") and row[1] == name for row in kept):
-        remedy = "name one as plantbal-desk book status or plant.csv has it"
-        raise Fault(f"there is no tank or stream {name!r}", text=name, remedy=remedy)
+        what = Sentence("there is no tank or stream {name!r}", name=name)
+        raise Fault(what, text=name, remedy=BookRemedy.NAME_A_PLACE().sentence)
     if until < first:
-        what = f"{until} is before {first}, on which the next part of the year begins"
+        form = "{until} is before {first}, on which the next part of the year begins"
+        what = Sentence(form, until=until, first=first)
         remedy = "periods up to there are in the book; give its last day in the part that begins"
         raise Fault(what, text=str(until), remedy=remedy)
     found: list[tuple[str, ...]] = [("version", "2")]
@@ -216,7 +223,7 @@ def dated(
         if count and (row[1] == name or (row[0] == "stream" and name in row[2:4])):
             since, end = (*row[count:], str(FIRST_DAY), str(LAST_DAY))[:2]
             row = (*row[:count], since, min(end, str(until)))
-            notes.append(f"{row[1]}: in service until {row[-1]}")
+            notes.append(Sentence("{name}: in service until {day}", name=row[1], day=Day(row[-1])))
         found.append(row)
     return found, notes
 
@@ -251,16 +258,19 @@ def _put(new: YearLedger, fact: BookFact) -> None:
     try:
         new.put(*fact.row())
     except Refusal as refusal:
-        raise Fault(
-            f"{fact.id} doesn't go over: {refusal.said}", text=fact.id, remedy=refusal.remedy
-        ) from refusal
+        form = "{id} doesn't go over: {said}"
+        what = Sentence(form, id=fact.id, said=phrase(refusal.said))
+        raise Fault(what, text=fact.id, remedy=refusal.remedy) from refusal
 
 
 def _other(old: YearLedger, new: YearLedger, name: str, closing: int, opening: int | None) -> Fault:
     """Return what is to be said of a tank whose contents would change."""
-    said = f"{name} holds {number_with_commas(tonnes_of(closing))} t as {old.name} ends"
+    amount = Figure(f"{number_with_commas(tonnes_of(closing))} t")
+    words = {"name": name, "amount": amount, "old": old.name, "new": new.name}
     if opening is None:
-        what = f"{said}, and isn't in the plant of {new.name}"
-        return Fault(what, text=name, remedy="book where it went as a transfer, or keep the tank")
-    what = f"{said}, and by the other table {number_with_commas(tonnes_of(opening))} t as {new.name} begins"
+        form = "{name} holds {amount} as {old} ends, and isn't in the plant of {new}"
+        remedy = "book where it went as a transfer, or keep the tank"
+        return Fault(Sentence(form, **words), text=name, remedy=remedy)
+    form = "{name} holds {amount} as {old} ends, and by the other table {other} as {new} begins"
+    what = Sentence(form, other=Figure(f"{number_with_commas(tonnes_of(opening))} t"), **words)
     return Fault(what, text=name, remedy="keep its table, or give the tank another name")

@@ -19,11 +19,13 @@ from plantbal.book.accounting import rolled_of
 from plantbal.book.difference import last_posted
 from plantbal.book.overview import report_state
 from plantbal.book.posting import check_answered
+from plantbal.book.remedies import BookRemedy
 from plantbal.book.results import ReportState
 from plantbal.book.store import Act, Store
 from plantbal.book.years import Years
 from plantbal.faults import Fault
 from plantbal.model.periods import Period
+from plantbal.sentence import Sentence
 
 _MADE = (Act.REPORT, Act.CLOSE, Act.POSTED)
 
@@ -104,8 +106,9 @@ def handed(book: Store, period: str) -> Handed:
         journal = book.journal()
         state = report_state(book, ledger, journal, period)
         if state is not ReportState.CURRENT:
-            what = f"the report of {period} isn't there, or is older than its facts"
-            raise Fault(what, text=period, remedy=f"plantbal-desk book report {period}")
+            form = "the report of {period} isn't there, or is older than its facts"
+            remedy = BookRemedy.MAKE_REPORT(period=period).sentence
+            raise Fault(Sentence(form, period=period), text=period, remedy=remedy)
         check_answered(book, ledger, period)
         posted = last_posted(book, period)
         figures = tuple(_figures(rolled_of(book).account(period), posted))

@@ -23,6 +23,7 @@ from itertools import pairwise
 
 from plantbal.book.forms import is_year
 from plantbal.faults import InputFault, Place
+from plantbal.sentence import Sentence
 
 HEADS = (
     "number",
@@ -202,11 +203,18 @@ class JournalLine:
             for year, first, last in _ADDED.findall(self.rows)
         }
 
-    def said(self) -> str:
+    def said(self) -> Sentence:
         """Return which action it is: `action 7 (amend FI-302_2024-04-18, 2024-05-02 …)`."""
-        words = " ".join(filter(None, (self.act.value, self.of, self.what)))
         by = self.who or self.user
-        return f"action {self.number:,} ({words}; {self.when}{f', {by}' if by else ''})"
+        return Sentence(
+            "action {number:,} ({words}; {when}, {by})"
+            if by
+            else "action {number:,} ({words}; {when})",
+            number=self.number,
+            words=" ".join(filter(None, (self.act.value, self.of, self.what))),
+            when=self.when,
+            by=by,
+        )
 
 
 def journal_text(rows: Sequence[Sequence[str]]) -> str:
@@ -390,19 +398,21 @@ def _check_chain(file: str, lines: list[JournalLine]) -> None:
     """
     if lines[0].number != 1 or lines[0].before != FIRST_BEFORE:
         place = Place(file=file, line=2)
-        what = f"this is action {lines[0].number:,}, and the journal begins with action 1"
-        raise InputFault(what, place=place, remedy=_REMEDY)
+        form = "this is action {number:,}, and the journal begins with action 1"
+        first = Sentence(form, number=lines[0].number)
+        raise InputFault(first, place=place, remedy=_REMEDY)
     if not any(line.is_chained for line in lines):
         what = "no line says which files its action left"
         raise InputFault(what, place=Place(file=file), remedy=_REMEDY)
     for at, (one, other) in enumerate(pairwise(lines), start=3):
         if other.number != one.number + 1 or other.before != one.digest:
             place = Place(file=file, line=at)
-            what = (
-                f"action {other.number:,} doesn't follow action {one.number:,}, which is "
-                "before it: a line was taken out, put in or changed"
+            form = (
+                "action {number:,} doesn't follow action {before:,}, which is before it: a line "
+                "was taken out, put in or changed"
             )
-            raise InputFault(what, place=place, remedy=_REMEDY)
+            broken = Sentence(form, number=other.number, before=one.number)
+            raise InputFault(broken, place=place, remedy=_REMEDY)
 
 
 # ---- journals of older versions

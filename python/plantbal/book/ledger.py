@@ -11,6 +11,7 @@ from math import isqrt
 
 from plantbal.amounts import tonnes_of
 from plantbal.book.reasons import in_ascii
+from plantbal.book.remedies import BookRemedy
 from plantbal.faults import Fault, InputFault, Place, Refusal
 from plantbal.memory import uncollected
 from plantbal.model import facts
@@ -21,6 +22,7 @@ from plantbal.model.file import Rows, Step
 from plantbal.model.periods import Period
 from plantbal.model.plant import Service, dip_days, is_served
 from plantbal.records import text_of, without_empty_end
+from plantbal.sentence import Figure, Sentence, phrase
 from plantbal.session import Session
 
 PLANT_KINDS = ("version", "boundary", "unit", "tank", "strap", "stream", "critical")
@@ -98,13 +100,17 @@ class BookFact:
         """Return what it says: `12,188 t`, or `6,560 mm at 1,250 kg/m3`."""
         if self.kind == "dip":
             density = number_with_commas(Decimal(self.values[1]) / 1000)
-            return f"{self.values[0]:,} mm at {density} kg/m3"
-        return f"{number_with_commas(tonnes_of(self.values[0]))} t"
+            words = {
+                "level": Figure(f"{self.values[0]:,} mm"),
+                "density": Figure(f"{density} kg/m3"),
+            }
+            return Sentence("{level} at {density}", **words)
+        return Figure(f"{number_with_commas(tonnes_of(self.values[0]))} t")
 
     def error(self) -> str:
         """Return its standard deviation: `182.82 t`."""
         root = Decimal(isqrt(self.variance * 10**6)).scaleb(-9)
-        return f"{number_with_commas(round(root, 3))} t"
+        return Figure(f"{number_with_commas(round(root, 3))} t")
 
 
 def rows_text(rows: Iterable[Sequence[str]]) -> str:
@@ -215,7 +221,8 @@ class YearLedger:
                 for step in ledger.session.taking(file, text.encode("utf-8")):
                     ledger._took(step)
         except Refusal as refusal:
-            refusal.remedy += "; rows of a book are written by its commands alone"
+            form = "{remedy}; rows of a book are written by its commands alone"
+            refusal.remedy = Sentence(form, remedy=phrase(refusal.remedy))
             raise
         return ledger
 
@@ -244,7 +251,7 @@ class YearLedger:
             self.put(*fact.row())
         except Refusal as refusal:
             if refusal.code == Cause.FULL:
-                refusal.remedy = "begin another part of the year: plantbal-desk book next"
+                refusal.remedy = BookRemedy.BEGIN_PART().sentence
             if refusal.code != Cause.CLOSED:
                 raise
             self.put("late", *fact.row())
@@ -336,6 +343,12 @@ class YearLedger:
         found = self.session.state.facts.on(place, day.toordinal())
         return None if found is None else BookFact.booked(found)
 
+    def without(self, place: str, days: Iterable[datetime.date]) -> list[datetime.date]:
+        """Return the days on which a stream has no reading, or a tank no dip."""
+        numbers = {day.toordinal(): day for day in days}
+        missing = self.session.state.facts.days_without(place, numbers)
+        return [numbers[number] for number in missing]
+
     def ticket(self, identity: str, others: frozenset[str] = frozenset()) -> BookFact | None:
         """Return the transfer of a ticket; if it was struck, the one that was booked in its place.
 
@@ -380,7 +393,7 @@ class YearLedger:
         for name in self._names(identity):
             if name not in self.facts and name not in self.struck:
                 return name
-        raise Fault(f"there is no free id for {identity}")
+        raise Fault(Sentence("there is no free id for {id}", id=identity))
 
     @staticmethod
     def _names(identity: str) -> Iterator[str]:

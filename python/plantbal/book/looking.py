@@ -26,6 +26,8 @@ from plantbal.faults import Fault
 from plantbal.model.periods import period_days
 from plantbal.model.plant import Service
 from plantbal.model.state import State
+from plantbal.report.rounds import rounds_in
+from plantbal.sentence import Sentence
 from plantbal.workbook.mapping.form import WorkbookMapping
 
 # The row of an output that begins the balance of a component.
@@ -142,6 +144,11 @@ class KeptReport:
         """The session that asked for it; empty of an earlier report."""
         return self.rows + self.asking
 
+    @property
+    def rounds(self) -> int:
+        """With how many rounds of elimination it was made, as far as it shows that."""
+        return rounds_in(self.text, f"the report of {self.period}")
+
 
 @dataclass(frozen=True)
 class MonthFacts:
@@ -223,10 +230,11 @@ def kept(book: Store, period: str, number: int | None = None) -> KeptReport:
         ledger = Years(book).of_period(period)
         if number is not None:
             text = book.text(f"{EARLIER}/{period}.{number}.csv")
-            _check_there(text, f"{period} has no earlier report {number}")
+            form = "{period} has no earlier report {number}"
+            _check_there(text, Sentence(form, period=period, number=number))
             return KeptReport(period, text, "", "", ReportState.OLDER)
         text = book.text(report_file(period))
-        _check_there(text, f"{period} has no report yet")
+        _check_there(text, Sentence("{period} has no report yet", period=period))
         journal = book.journal()
         seen = seen_by(journal, ledger, period, Act.REPORT, Act.CLOSE)
         rows = book.text(year_file(ledger.name)).splitlines(keepends=True)
@@ -252,7 +260,8 @@ def kept_window(book: Store, first: str, last: str) -> KeptReport:
     """
     with book.opened(reading=True):
         text = book.text(window_file(first, last))
-        _check_there(text, f"there is no report of a window from {first} to {last}")
+        form = "there is no report of a window from {first} to {last}"
+        _check_there(text, Sentence(form, first=first, last=last))
         return KeptReport(f"{first}+{last}", text, "", "", ReportState.CURRENT)
 
 
@@ -335,7 +344,8 @@ def fact_line(book: Store, year: str, identity: str) -> FactLine:
         struck = identity in ledger.struck
         fact = ledger.struck.get(identity) or ledger.facts.get(identity)
         if fact is None:
-            raise Fault(f"there is no fact {identity} in {year}", text=identity)
+            what = Sentence("there is no fact {id} in {year}", id=identity, year=year)
+            raise Fault(what, text=identity)
         lines = tuple(book.journal())
         there = ledger.session.state.facts.find(identity)
         row = there.booked if there is not None else 0

@@ -16,10 +16,10 @@ from decimal import Decimal
 from plantbal.book.changes import Change, Changes
 from plantbal.book.forms import MEASURED, MEASURES, SUMMED
 from plantbal.book.meters import Meter, exact_decimal
-from plantbal.book.said import count_said
 from plantbal.book.store import Action, Store
 from plantbal.book.ledger import BookFact, YearLedger
 from plantbal.faults import Fault, Faults
+from plantbal.sentence import Figure, Joined, Sentence, counted
 from plantbal.volumes.liquid import MeasuredFigure, Product, Sample
 from plantbal.volumes.trail import Trail, read_trails, trail_number, trails_text
 from plantbal.workbook.cells import Reader
@@ -137,7 +137,8 @@ def put_measures(book: Store, action: Action, found: Measures) -> list[str]:
         return []
     action.written[MEASURES] = text
     new = set(text.splitlines()) - set(before.splitlines())
-    return [f"{MEASURES}: {count_said(len(new), 'row')}, new or changed"]
+    one, many = "{file}: 1 row, new or changed", "{file}: {count:,} rows, new or changed"
+    return [counted(len(new), one, many, file=MEASURES)]
 
 
 # ---- how masses were calculated
@@ -162,8 +163,12 @@ def check_measured(
     """
     for ledger, fact in places:
         if (ledger.name, fact.id) in trails and (fact.kind == "dip" or is_volume):
-            of = "level" if fact.kind == "dip" else "volume"
-            what = f"{fact.id} was calculated from more than its {of} ({MEASURED})"
+            form = (
+                "{id} was calculated from more than its level ({file})"
+                if fact.kind == "dip"
+                else "{id} was calculated from more than its volume ({file})"
+            )
+            what = Sentence(form, id=fact.id, file=MEASURED)
             remedy = (
                 "correct the workbook, with its density, temperature and water, and add it again"
             )
@@ -224,8 +229,9 @@ def density_changes(
         if old and other and old != other:
             found.setdefault((place, old, other), []).append(change)
     for (place, old, other), own in found.items():
-        said = f"the density of {place}, {old} kg/m3, becomes {other} kg/m3"
-        yield f"{said}, which changes {_periods_of(own)}"
+        form = "the density of {place}, {old}, becomes {other}, which changes {facts}"
+        densities = {"old": Figure(f"{old} kg/m3"), "other": Figure(f"{other} kg/m3")}
+        yield Sentence(form, place=place, facts=_periods_of(own), **densities)
 
 
 def _density_of(trail: Trail | None, meter: Meter | None) -> str:
@@ -245,7 +251,11 @@ def _periods_of(changes: Sequence[Change]) -> str:
         for name, period in change.ledger.periods.items():
             if period.first <= day <= period.last:
                 names[name] = period.closed
-    said = [f"{name} (closed)" if closed else name for name, closed in names.items()]
-    more = f" and {len(said) - _SAID} more" if len(said) > _SAID else ""
-    of = f" of {', '.join(said[:_SAID])}{more}" if said else ""
-    return f"{count_said(len(changes), 'fact')}{of}"
+    closed = "{name} (closed)"
+    said = [Sentence(closed, name=name) if done else name for name, done in names.items()]
+    if not said:
+        return counted(len(changes), "1 fact", "{count:,} facts")
+    which: str = Joined(", ", said[:_SAID])
+    if len(said) > _SAID:
+        which = Sentence("{names} and {count} more", names=which, count=len(said) - _SAID)
+    return counted(len(changes), "1 fact of {names}", "{count:,} facts of {names}", names=which)

@@ -13,6 +13,7 @@ from fractions import Fraction
 
 from plantbal.book.forms import METERS
 from plantbal.book.store import Store
+from plantbal.sentence import Joined, Phrase, Sentence
 from plantbal.workbook.cells import Error, Reader
 from plantbal.workbook.plant import PlantReader, StreamRow, TankRow
 from plantbal.workbook.sheets import Cell, Sheet, csv_sheet
@@ -121,16 +122,17 @@ def meters_text(meters: Iterable[Meter]) -> str:
 
 def changed_meters(before: Mapping[str, Meter], now: Mapping[str, Meter]) -> list[str]:
     """Return how the meters of a book change, a line each: later figures are read by them."""
-    lines = []
+    lines: list[str] = []
+    form = "{head} {old} becomes {new}"
     for name, was in before.items():
         meter = now.get(name, was)
         pairs = zip((*was.row(), error_text(was.base)), (*meter.row(), error_text(meter.base)))
         parts = [
-            f"{head} {old or 'none'} becomes {new or 'none'}"
+            Sentence(form, head=head, old=old or Phrase("none"), new=new or Phrase("none"))
             for head, (old, new) in zip((*HEADS, BASE), pairs)
             if old != new
         ]
-        lines += [f"{METERS}: {name}: {', '.join(parts)}"] if parts else []
+        lines += [Joined(": ", (METERS, name, Joined(", ", parts)))] if parts else []
     return lines
 
 

@@ -13,7 +13,9 @@ import sys
 from collections.abc import Iterable
 from pathlib import Path
 
+from plantbal.book.remedies import BookRemedy
 from plantbal.faults import Fault, InputFault, Place
+from plantbal.sentence import Sentence
 
 TRUSTED = "PLANTBAL_TRUST"  # folders of others that a user trusts, with colons between them
 
@@ -72,10 +74,10 @@ def check_folder(folder: Path) -> None:
     found = folder.stat()
     if found.st_uid == os.getuid() or is_shared(found, os.getuid()) or is_trusted(folder):
         return
+    words = {"folder": str(folder.resolve()), "owner": owner_said(found.st_uid)}
     raise Fault(
-        f"the book {folder.resolve()} belongs to {owner_said(found.st_uid)}",
-        remedy="let its owner do it, or share it with a group that may write to it; if you trust "
-        f"whoever filled it, set {TRUSTED}={folder.resolve()} before the command",
+        Sentence("the book {folder} belongs to {owner}", **words),
+        remedy=BookRemedy.SHARE_OR_TRUST(trusted=TRUSTED, **words).sentence,
     )
 
 
@@ -100,11 +102,12 @@ def check_links(folder: Path, names: Iterable[str]) -> None:
     for name in names:
         link = link_in(folder, name)
         if link is not None and not is_trusted(folder):
+            form = "it is a link, to {path}, and nothing is written through it"
+            words = {"trusted": TRUSTED, "folder": str(folder.resolve())}
             raise InputFault(
-                f"it is a link, to {link.resolve()}, and nothing is written through it",
+                Sentence(form, path=str(link.resolve())),
                 place=Place(file=str(link)),
-                remedy="put the file itself there; if the link is your own, set "
-                f"{TRUSTED}={folder.resolve()} before the command",
+                remedy=BookRemedy.FILE_OR_TRUST(**words).sentence,
             )
 
 

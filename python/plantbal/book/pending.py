@@ -17,6 +17,7 @@ from plantbal import limits
 from plantbal.book.forms import PENDING, is_own
 from plantbal.book.owners import is_trusted, link_in, may_have_left, owner_said
 from plantbal.faults import InputFault, Place, unread
+from plantbal.sentence import Sentence, phrase
 
 
 @dataclass(frozen=True)
@@ -57,12 +58,10 @@ class PendingFile:
         whole = there[: self.start] + self.data
         if len(there) != self.start and there != whole:
             rows = self.data.count(b"\n")
-            raise InputFault(
-                f"another program has changed it, and {rows:,} rows wait",
-                place=Place(file=str(path)),
-                remedy=f"put it back as it was with {self.start:,} bytes; "
-                f"{path.parent / PENDING} has the rows",
-            )
+            what = Sentence("another program has changed it, and {rows:,} rows wait", rows=rows)
+            form = "put it back as it was with {count:,} bytes; {path} has the rows"
+            remedy = Sentence(form, count=self.start, path=str(path.parent / PENDING))
+            raise InputFault(what, place=Place(file=str(path)), remedy=remedy)
         return whole
 
 
@@ -93,9 +92,10 @@ def read_pending(folder: Path) -> list[PendingFile]:
     if not stat.S_ISREG(found.st_mode):
         raise _foreign(path, "it is a link, a folder or a device, not a file")
     if not may_have_left(folder, found):
-        raise _foreign(path, f"it belongs to {owner_said(found.st_uid)}")
+        raise _foreign(path, Sentence("it belongs to {owner}", owner=owner_said(found.st_uid)))
     if found.st_size > limits.PENDING_BYTES:
-        raise _foreign(path, f"it has more than {limits.PENDING_BYTES:,} bytes")
+        form = "it has more than {count:,} bytes"
+        raise _foreign(path, Sentence(form, count=limits.PENDING_BYTES))
     try:
         items = json.loads(path.read_bytes())
     except OSError as error:
@@ -125,9 +125,11 @@ def _entries(folder: Path, items: Any) -> list[PendingFile]:
         if not whole or not isinstance(name, str) or not isinstance(text, str):
             raise _foreign(path, "it isn't what a command writes")
         if not is_own(name):
-            raise _foreign(path, f"it names {name!r}, which isn't a file of a book")
+            form = "it names {name!r}, which isn't a file of a book"
+            raise _foreign(path, Sentence(form, name=name))
         if link_in(folder, name) is not None and not is_trusted(folder):
-            raise _foreign(path, f"it names {name}, where a link leads elsewhere")
+            form = "it names {name}, where a link leads elsewhere"
+            raise _foreign(path, Sentence(form, name=name))
         try:
             entries.append(PendingFile(name, start, text.encode("utf-8")))
         except UnicodeEncodeError:
@@ -137,9 +139,22 @@ def _entries(folder: Path, items: Any) -> list[PendingFile]:
 
 def _foreign(path: Path, why: str) -> InputFault:
     """Return what is to be said of a `.pending` that isn't believed."""
+    form = "an action waits that no command of this book can have left: {why}"
     return InputFault(
-        f"an action waits that no command of this book can have left: {why}",
+        Sentence(form, why=phrase(why)),
         place=Place(file=str(path)),
         remedy="nothing of it is done; if you don't know where it is from, ask whoever gave you "
         "the book, and move this file away",
     )
+
+
+def left_said(path: Path, started: bool) -> Sentence:
+    """Return what is to be said of an action that waits in a file, of which something is done or nothing."""
+    form = (
+        "the action waits in {path}: the next command that writes to the book does it; part of it "
+        "is done, so it can't be dropped, but amended after that"
+        if started
+        else "the action waits in {path}: the next command that writes to the book does it; to drop "
+        "it, remove that file before"
+    )
+    return Sentence(form, path=str(path))

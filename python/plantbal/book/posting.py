@@ -31,6 +31,7 @@ from plantbal.book.forms import earlier_file, posted_file, report_file, year_fil
 from plantbal.book.journal import Act, Kept
 from plantbal.book.ledger import YearLedger
 from plantbal.book.overview import report_state
+from plantbal.book.remedies import BookRemedy
 from plantbal.book.reporting import stops_in
 from plantbal.book.said import behind_said, unassayed
 from plantbal.book.store import Action, Store
@@ -38,6 +39,7 @@ from plantbal.book.years import Years
 from plantbal.faults import Fault
 from plantbal.gates import Gate, Stop
 from plantbal.report.output import parse_report
+from plantbal.sentence import Sentence, phrase
 
 
 class NotPosted(Fault):
@@ -53,11 +55,9 @@ class NotPosted(Fault):
 
     def __init__(self, period: str, stops: Sequence[Stop], unanswered: Sequence[Gate]) -> None:
         why, words = stopped_said(stops, unanswered)
-        super().__init__(
-            f"{period} isn't posted: {why}",
-            remedy="put that right first, or say why it is posted all the same: "
-            f"plantbal-desk book posted {period} {words}",
-        )
+        what = Sentence("{period} isn't posted: {why}", period=period, why=why)
+        remedy = BookRemedy.POST_ANYWAY(period=period, words=words).sentence
+        super().__init__(what, remedy=remedy)
         self.stops = tuple(stops)
         self.unanswered = tuple(unanswered)
 
@@ -76,16 +76,18 @@ def post(
         ledger = Years(book).of_period(period)
         behind = behind_said(report_state(book, ledger, book.journal(), period), period)
         if behind:
-            raise Fault(f"{period} isn't posted: {behind}", remedy="make the report first")
+            late = Sentence("{period} isn't posted: {why}", period=period, why=phrase(behind))
+            raise Fault(late, remedy="make the report first")
         is_open = not ledger.periods[period].closed
         if is_open and not anyway:
-            remedy = f"plantbal-desk book close {period}, or use --anyway"
-            raise Fault(f"{period} is open, and isn't posted", remedy=remedy)
+            still_open = Sentence("{period} is open, and isn't posted", period=period)
+            raise Fault(still_open, remedy=BookRemedy.CLOSE_OR_POST_ANYWAY(period=period).sentence)
         before = last_posted(book, period)
         found = difference_of(book, period, (POSTED, NOW))
         if not found.changes:
             remedy = "nothing is posted twice: there is nothing new to post"
-            raise Fault(f"{period} is already posted, as {before.id}", remedy=remedy)
+            already = Sentence("{period} is already posted, as {id}", period=period, id=before.id)
+            raise Fault(already, remedy=remedy)
         needed = _reasons(book, ledger, period, reasons)
         number = posted_numbers(book, period) + 1
         account = account_by(book, versions_of(book), period)

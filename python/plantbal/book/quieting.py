@@ -5,8 +5,10 @@ from __future__ import annotations
 from collections.abc import Sequence
 
 from plantbal.book.answers import Quiet, checked_reason, checked_rule, quieted
+from plantbal.book.remedies import BookRemedy
 from plantbal.book.store import Act, Action, Store
 from plantbal.faults import Fault
+from plantbal.sentence import Sentence
 
 
 def quiet(book: Store, code: str, names: Sequence[str], *, why: str, who: str) -> None:
@@ -21,8 +23,8 @@ def heed(book: Store, code: str, names: Sequence[str], *, why: str, who: str) ->
     with book.opened():
         there = [set(each.names) for each in quieted(book.journal()) if each.code == code]
         if set(names) not in there:
-            remedy = "plantbal-desk book quiet lists what is quieted"
-            raise Fault(f"{code} isn't quieted for {' '.join(names)}", text=code, remedy=remedy)
+            what = Sentence("{code} isn't quieted for {names}", code=code, names=" ".join(names))
+            raise Fault(what, text=code, remedy=BookRemedy.LIST_QUIETED().sentence)
         book.do(Action(Act.HEED, code, " ".join(names), checked_reason(why), who))
 
 

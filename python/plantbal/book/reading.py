@@ -11,10 +11,12 @@ from pathlib import Path
 from plantbal.book.forms import MEASURES
 from plantbal.book.measures import take_measures
 from plantbal.book.meters import Meter, plant_with_meters
-from plantbal.book.said import count_said, listed
+from plantbal.book.remedies import BookRemedy
+from plantbal.book.said import listed
 from plantbal.book.vanished import PulledSource
 from plantbal.faults import Fault, Faults, InputFault, Refusal
 from plantbal.memory import uncollected
+from plantbal.sentence import Sentence, counted
 from plantbal.session import Period
 from plantbal.workbook.base import PeriodDays
 from plantbal.workbook.conversion import Conversion
@@ -26,12 +28,22 @@ from plantbal.workbook.sheets import Sheet, read_workbook
 from plantbal.workbook.tables import is_rows_of_critical, kind_of_heads
 
 _PLANT = ("boundaries", "units", "tanks", "straps")
+# What is said of a part of the plant that a sheet doesn't have.
+_NOT_HERE = {
+    "streams": (
+        "1 stream of the book isn't here: {names}",
+        "{count:,} streams of the book aren't here: {names}",
+    ),
+    "tanks": (
+        "1 tank of the book isn't here: {names}",
+        "{count:,} tanks of the book aren't here: {names}",
+    ),
+    "straps": (
+        "1 table of the book isn't here: {names}",
+        "{count:,} tables of the book aren't here: {names}",
+    ),
+}
 _FIRST = 12  # faults that are said; the others are counted
-# What is said of another critical value than that of the book.
-ANOTHER_VALUE = (
-    "what is declared stays to the end of a year; another value comes with "
-    "plantbal-desk book next YEAR --plant WORKBOOK"
-)
 
 
 @dataclass(frozen=True)
@@ -157,7 +169,7 @@ def converted(
         if not edits:
             work.rows.read()
         for sheet in work.sheets["windows"]:
-            work.tables.pass_sheet(sheet, "plantbal-desk book window asks for a window")
+            work.tables.pass_sheet(sheet, BookRemedy.ASK_FOR_WINDOW().sentence)
         if not edits:
             work.tables.say_unread()
         work.say_rounded()
@@ -183,7 +195,7 @@ def _read_plant(work: Converter, plant: list[tuple[str, ...]], meters: dict[str,
         booked = {row[:-1] for row in plant if row[0] == "critical"}
         for fault in work.faults:
             if isinstance(fault, Refusal) and fault.row[:-1] in booked:
-                fault.remedy = ANOTHER_VALUE
+                fault.remedy = BookRemedy.DECLARED_STAYS_HERE().sentence
         return
     work.plant.begin(plant)
     if not work.sheets["tanks"]:
@@ -197,21 +209,16 @@ def _read_plant(work: Converter, plant: list[tuple[str, ...]], meters: dict[str,
 def _left_out(work: Converter, streams: list[StreamRow], tanks: list[TankRow]) -> Iterator[Fault]:
     """Give what is to be said of sheets that have a part of the plant only, such as what is new."""
     tables = [tank.name for tank in tanks if tank.points and tank.name in work.plant.tanks]
-    for kind, what, booked, there in (
-        ("streams", "stream", [each.name for each in streams], list(work.plant.streams)),
-        ("tanks", "tank", [each.name for each in tanks], list(work.plant.tanks)),
-        (
-            "straps",
-            "table",
-            tables,
-            [tank.name for tank in work.plant.tanks.values() if tank.points],
-        ),
+    with_table = [tank.name for tank in work.plant.tanks.values() if tank.points]
+    for kind, booked, there in (
+        ("streams", [each.name for each in streams], list(work.plant.streams)),
+        ("tanks", [each.name for each in tanks], list(work.plant.tanks)),
+        ("straps", tables, with_table),
     ):
         names = [name for name in booked if name not in there and name not in work.plant.bad]
         if names and work.sheets[kind]:
-            are = "isn't" if len(names) == 1 else "aren't"
             yield InputFault(
-                f"{count_said(len(names), what)} of the book {are} here: {listed(names)}",
+                counted(len(names), *_NOT_HERE[kind], names=listed(names)),
                 place=work.sheets[kind][0].place(),
                 remedy="write the whole plant into this sheet, with what is new",
             )
@@ -222,6 +229,7 @@ def _edits(work: Converter) -> Iterator[Fault]:
     for sheet in work.sheets["rows"]:
         for cells in sheet.rows():
             if cells[0].text in ("amend", "strike", "close"):
-                remedy = f"take it out, and type plantbal-desk book {cells[0].text}"
-                what = f"a row {cells[0].text} is in a sheet rows"
+                act = cells[0].text
+                remedy = BookRemedy.DO_BY_COMMAND(act=act).sentence
+                what = Sentence("a row {act} is in a sheet rows", act=act)
                 yield InputFault(what, place=cells[0].place(), remedy=remedy)

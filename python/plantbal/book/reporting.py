@@ -3,6 +3,7 @@
 from __future__ import annotations
 
 from collections.abc import Iterator, Mapping, Sequence
+from dataclasses import replace
 from decimal import Decimal
 
 from plantbal.accounts.sheet import SalesUnit, sales_units
@@ -14,6 +15,7 @@ from plantbal.book.journal import Kept
 from plantbal.book.ledger import YearLedger, number_with_commas
 from plantbal.book.meters import read_meters
 from plantbal.book.results import Reported
+from plantbal.book.rounds import OtherRounds, kept_rounds, settled
 from plantbal.book.said import lacks
 from plantbal.book.store import Act, Action, Store
 from plantbal.book.years import Years
@@ -26,7 +28,7 @@ from plantbal.model import ledger as model
 from plantbal.program import RunSettings, call
 from plantbal.report.blocks import Block, last_blocks
 from plantbal.report.output import Output, parse_report
-from plantbal.sentence import Figure, Joined, Sentence
+from plantbal.sentence import Figure, Joined, Sentence, phrase
 
 _MOST = 5  # suspects that are named
 
@@ -97,7 +99,8 @@ def report_state_line(output: Output, period: str) -> str:
     """Return what a report says as a whole, in a line."""
     block = output.reports[-1] if output.reports else None
     if block is None or block.solved is None:
-        return f"{period}: no report: {'; '.join(output.why)}"
+        form = "{period}: no report: {why}"
+        return Sentence(form, period=period, why=Joined("; ", map(phrase, output.why)))
     return state_of_block(block)
 
 
@@ -110,12 +113,13 @@ def balances_said(output: Output) -> list[str]:
 
 def state_of_block(block: Block) -> str:
     """Return what a round says as a whole, after what it is of."""
-    said = f"{block.subject}: {block.verdict}"
+    words = {"subject": block.subject, "verdict": phrase(block.verdict)}
     if block.solved and block.whole and block.whole["critical"]:
-        low = Decimal(block.solved["low"]) / 1000
-        critical = Decimal(block.whole["critical"]) / 1000
-        said += f": {number_with_commas(low)} (critical value {number_with_commas(critical)})"
-    return said
+        low = Figure(number_with_commas(Decimal(block.solved["low"]) / 1000))
+        critical = Figure(number_with_commas(Decimal(block.whole["critical"]) / 1000))
+        form = "{subject}: {verdict}: {low} (critical value {critical})"
+        return Sentence(form, low=low, critical=critical, **words)
+    return Sentence("{subject}: {verdict}", **words)
 
 
 def suspects_of(output: Output) -> list[str]:
@@ -245,6 +249,8 @@ def reports(
     ------
     Fault
         If there is no such period, or none is open.
+    OtherRounds
+        If one is closed, and would have other suspects taken out than its report has.
     """
     with book.opened():
         years = Years(book)
@@ -255,7 +261,7 @@ def reports(
         for name in periods:
             ledger = years.of_period(name)
             components = ledger.session.components_in(name)
-            text, output = report_of(settings, book.text(f"{ledger.name}.csv"), name, components)
+            text, output = _made(book, ledger, name, settings)
             action = Action(Act.REPORT, name, who=who)
             action.program = program_digest(settings.program)
             new = write_and_keep(book, action, ledger, name, text, ledger.periods[name].closed)
@@ -269,6 +275,25 @@ def reports(
             holes = holes_said(output, whole.encode("ascii"), units)
             path = book.path(report_file(name))
             yield Reported(name, output, path, new, tuple(missing), tuple(stops), tuple(holes))
+
+
+def _made(book: Store, ledger: YearLedger, name: str, settings: RunSettings) -> tuple[str, Output]:
+    """Return the report of a period as the program writes it, and as tables.
+
+    Raises
+    ------
+    OtherRounds
+        If the period is closed, and the rounds of its last report give another one.
+    """
+    session, components = book.text(year_file(ledger.name)), ledger.session.components_in(name)
+    how = settled(book, report_file(name), settings)
+    made = report_of(how, session, name, components)
+    if ledger.periods[name].closed and book.has(report_file(name)):
+        last = replace(how, eliminate=kept_rounds(book, report_file(name)))
+        is_other = how.rounds != last.rounds
+        if is_other and report_of(last, session, name, components)[0] != made[0]:
+            raise OtherRounds(name, last.rounds)
+    return made
 
 
 def session_asking(book: Store, names: Sequence[str]) -> str:

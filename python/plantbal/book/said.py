@@ -7,15 +7,12 @@ from collections import Counter
 from collections.abc import Callable, Collection, Iterable
 
 from plantbal.book.changes import Changes
-from plantbal.book.forms import JOURNAL, year_file
+from plantbal.book.forms import JOURNAL
 from plantbal.book.ledger import PLANT_KINDS, BookFact, YearLedger
 from plantbal.book.meters import Meter
+from plantbal.book.remedies import BookRemedy
 from plantbal.book.results import ReportState, YearAdded
 from plantbal.book.store import Store
-from plantbal.lint import SEVERITIES, Finding
-from plantbal.lint.plant import near_names
-from plantbal.lint.values import densities, magnitudes, odd_deviations
-from plantbal.model import ledger as model
 from plantbal.sentence import Joined, Sentence
 from plantbal.session import Period, day_of_number, in_service, is_served, period_days
 from plantbal.workbook.base import days_between
@@ -29,7 +26,6 @@ _NEW = {
     "dip": "dip",
     "assay": "assay",
 }
-_ODD = (near_names, magnitudes, odd_deviations, densities)
 _EDITED = {"amend": "amended", "strike": "struck", "close": "closed"}
 
 
@@ -43,28 +39,22 @@ def waiting_said(book: Store) -> list[str]:
     if not book.waits:
         return []
     names = listed([entry.file for entry in book.waits if entry.file != JOURNAL])
-    what = book.journal()[-1].said()
-    return [
-        f"{what} was stopped, and is shown as if it were done; the next command that writes to "
-        f"the book does what is left of it, to {names}"
-    ]
+    form = (
+        "{what} was stopped, and is shown as if it were done; the next command that writes to the "
+        "book does what is left of it, to {names}"
+    )
+    return [Sentence(form, what=book.journal()[-1].said(), names=names)]
 
 
 def behind_said(state: ReportState, period: str) -> str:
     """Return what is to be said of a period's report, or nothing if it has all that is booked."""
     if state is ReportState.OLDER:
-        return f"changed since its report: plantbal-desk book report {period}"
+        return BookRemedy.OLDER_THAN_FACTS(period=period).sentence
     return "not reported yet" if state is ReportState.MISSING else ""
 
 
 def listed(names: list[str]) -> str:
     """Return names with commas, of many the first."""
-    more = f" and {len(names) - FIRST:,} more" if len(names) > FIRST else ""
-    return ", ".join(names[:FIRST]) + more
-
-
-def _listed(names: list[str]) -> str:
-    """Return names with commas, of many the first, for a sentence."""
     first = Joined(", ", names[:FIRST])
     if len(names) <= FIRST:
         return first
@@ -148,26 +138,7 @@ def closed_in(facts: Iterable[tuple[YearLedger, BookFact]]) -> list[str]:
 
 def reopened_said(period: str) -> str:
     """Return what is to be said if a fact of a closed period is changed."""
-    then = f"plantbal-desk book report {period}, and then plantbal-desk book difference {period}"
-    return f"{period} is closed, and this changes it: {then}"
-
-
-def odd(ledger: YearLedger) -> list[Finding]:
-    """Return what of a year looks wrong by its names and values: another unit, another size.
-
-    Its rows aren't judged again: the rules look at the session that the ledger has.
-    """
-    session = model.Ledger.of_state(year_file(ledger.name), ledger.session.state)
-    found = [each for rule in _ODD for each in rule(session)]
-    return sorted(found, key=lambda each: (SEVERITIES.index(each.severity), each.place.line or 0))
-
-
-def doubts(before: Iterable[Finding], ledger: YearLedger) -> list[Finding]:
-    """Return what looks wrong in a year that has had rows added, and didn't before."""
-    if not ledger.added:
-        return []
-    known = {(each.text, each.remedy) for each in before}
-    return [each for each in odd(ledger) if (each.text, each.remedy) not in known]
+    return BookRemedy.REPORT_AND_DIFFERENCE(period=period).sentence
 
 
 def lacks_said(
@@ -193,7 +164,7 @@ def lacks(ledger: YearLedger, period: Period, meters: dict[str, Meter]) -> list[
         if kind == "metered":
             service = ledger.session.service(name)
             served = [day for day in days if in_service(service, day.toordinal())]
-            missing = [day for day in served if ledger.on(name, day) is None]
+            missing = ledger.without(name, served)
             if missing:
                 tag = meters[name].tag if name in meters else ""
                 said = f"{tag} ({name})" if tag else name
@@ -201,7 +172,7 @@ def lacks(ledger: YearLedger, period: Period, meters: dict[str, Meter]) -> list[
     for name, kind in ledger.session.nodes.items():
         if kind == "tank":
             service = ledger.session.service(name)
-            missing = [d for d in tank_days(service, first, last) if ledger.on(name, d) is None]
+            missing = ledger.without(name, tank_days(service, first, last))
             if missing:
                 when = _by_window(ledger, name, period, missing, spans(missing))
                 if service is not None and missing == [day_of_number(service[0] - 1)]:
@@ -209,7 +180,7 @@ def lacks(ledger: YearLedger, period: Period, meters: dict[str, Meter]) -> list[
                     when = Sentence(form, days=when)
                 groups.setdefault((_NO_DIP, when), []).append(name)
     lines: list[str] = [
-        Sentence(form, period=period.name, names=_listed(names), days=when)
+        Sentence(form, period=period.name, names=listed(names), days=when)
         for (form, when), names in groups.items()
     ]
     return lines + unassayed(ledger, period)
@@ -246,7 +217,7 @@ def unassayed(ledger: YearLedger, period: Period, none: bool = False) -> list[st
                 "{period}: no assay of {component} in {names}, which {before} has: enter it before "
                 "the close"
             )
-            words = {"component": component, "names": _listed(names), "before": last.name}
+            words = {"component": component, "names": listed(names), "before": last.name}
             lines.append(Sentence(form, period=period.name, **words))
     return lines
 

@@ -12,6 +12,7 @@ from plantbal.book.said import waiting_said
 from plantbal.book.store import Store
 from plantbal.book.years import Years
 from plantbal.faults import Fault
+from plantbal.sentence import Sentence
 
 
 def show(
@@ -38,7 +39,7 @@ def show(
         if fact.place == place and fact.first <= last and fact.last >= first
     }
     if not found:
-        raise Fault(f"nothing of {name} is booked on these days", text=name)
+        raise Fault(Sentence("nothing of {name} is booked on these days", name=name), text=name)
     return [found[key] for key in sorted(found)], meters.get(place), waiting
 
 

@@ -60,10 +60,12 @@ from plantbal.book.journal import (
 )
 from plantbal.book.lock import locked
 from plantbal.book.owners import check_folder, check_links, link_in, user_said
-from plantbal.book.pending import PendingFile, pending_text, read_pending
+from plantbal.book.pending import PendingFile, left_said, pending_text, read_pending
+from plantbal.book.remedies import BookRemedy
 from plantbal.book.writing import Writing, sync
 from plantbal.faults import decoded, Fault, FileFault, InputFault, Place, read_bytes
 from plantbal.files import unwritten
+from plantbal.sentence import Joined, Sentence, phrase
 
 __all__ = ["METERS", "PLANT", "REPORTS", "Act", "Action", "Head", "JournalLine", "Store"]
 
@@ -176,13 +178,10 @@ class Store:
             return
         found = self.remains()
         if found:
-            what = f"{found[0]} is of a book, and there is no journal.csv"
+            what = Sentence("{name} is of a book, and there is no journal.csv", name=found[0])
             raise InputFault(what, place=Place(file=str(self.folder)), remedy=_LOST)
-        raise FileFault(
-            f"there is no book in {self.folder.resolve()}",
-            remedy="go to its folder or name it with --book, "
-            "or make one: plantbal-desk book new 2024 WORKBOOK",
-        )
+        there = Sentence("there is no book in {folder}", folder=self.folder.resolve())
+        raise FileFault(there, remedy=BookRemedy.GO_OR_MAKE().sentence)
 
     def remains(self) -> list[str]:
         """Return the names of what is there of a book: of its files, or of one that was lost."""
@@ -256,10 +255,9 @@ class Store:
         """
         lines = self.journal()
         if self._is_old:
-            raise Fault(
-                f"the journal of {self.folder.resolve()} is of an older version, without digests",
-                remedy="the next command that writes to the book begins them",
-            )
+            form = "the journal of {folder} is of an older version, without digests"
+            remedy = "the next command that writes to the book begins them"
+            raise Fault(Sentence(form, folder=self.folder.resolve()), remedy=remedy)
         return Head(lines[-1].number, lines[-1].digest)
 
     def path(self, name: str) -> Path:
@@ -410,8 +408,10 @@ class Store:
         lines = list(before)
         for at in range(0, len(names), _MOST_FILES):
             files = {name: Kept.of(self._bytes(name)) for name in names[at : at + _MOST_FILES]}
-            what = f"the digests begin here: nothing before this was kept by them, {len(before):,} "
-            what += "actions of an older version"
+            what = (
+                "the digests begin here: nothing before this was kept by them, "
+                f"{len(before):,} actions of an older version"
+            )
             line = JournalLine(0, now(), user_said(), "", Act.BEGIN, what=what, files=files)
             lines.append(following(lines, line))
         return lines[len(before) :]
@@ -484,14 +484,10 @@ class Store:
 
     def _waiting(self, started: bool) -> str:
         """Return what is to be said of an action that waits."""
-        path = self.folder / PENDING
-        waits = f"the action waits in {path}: the next command that writes to the book does it"
-        if started:
-            return f"{waits}; part of it is done, so it can't be dropped, but amended after that"
-        return f"{waits}; to drop it, remove that file before"
+        return left_said(self.folder / PENDING, started)
 
 
 def _said(fault: Fault, then: str) -> Fault:
     """Return a fault that says, too, what becomes of the action."""
-    remedy = f"{fault.remedy}; {then}" if fault.remedy else then
+    remedy = Joined("; ", (phrase(each) for each in (fault.remedy, then) if each))
     return InputFault(fault.what, place=fault.place, text=fault.text, remedy=remedy)

@@ -11,11 +11,13 @@ from plantbal.audit.changed import digest
 from plantbal.audit.linked import bundle_manifest
 from plantbal.book.chain import state_of
 from plantbal.book.forms import JOURNAL
+from plantbal.book.remedies import BookRemedy
 from plantbal.book.results import AcceptedFile, Verified
 from plantbal.book.said import waiting_said
 from plantbal.book.opening import read_book
 from plantbal.book.store import Act, Action, Head, Store
 from plantbal.faults import Fault, InputFault, read_bytes
+from plantbal.sentence import Sentence
 
 _DIGEST = re.compile(r"(?:([0-9]{1,9}) )?([0-9a-f]{64})")
 
@@ -59,10 +61,12 @@ def unknown(book: Store) -> Iterator[str]:
         yield f"note: {each.fault(book.folder)}"
     begun = [line for line in book.journal() if line.act == Act.BEGIN]
     if begun:
-        yield f"note: {begun[0].said()}: what was changed before it can't be known"
+        form = "note: {action}: what was changed before it can't be known"
+        yield Sentence(form, action=begun[0].said())
     for line in book.journal():
         if line.act == Act.ACCEPT:
-            yield f"note: {line.said()}: a file was taken as it was: {line.why}"
+            form = "note: {action}: a file was taken as it was: {why}"
+            yield Sentence(form, action=line.said(), why=line.why)
 
 
 def unknown_in(folder: str | Path) -> list[InputFault]:
@@ -97,23 +101,26 @@ def missing_head(book: Store, source: str, text: str) -> list[str]:
     """
     found = _DIGEST.fullmatch(text.strip())
     if found is None:
-        remedy = "it has 64 hexadecimal digits, as plantbal-desk book head prints them"
-        raise Fault(f"{text!r} isn't a head of a book", text=text, remedy=remedy)
+        what = Sentence("{text!r} isn't a head of a book", text=text)
+        raise Fault(what, text=text, remedy=BookRemedy.HEAD_HAS().sentence)
     lines = [line for line in book.journal() if line.digest == found[2]]
     if lines and found[1] in (None, str(lines[0].number)):
         return []
-    number = f" of action {int(found[1]):,}" if found[1] else ""
-    return [
-        f"{source}: this book doesn't have the head{number} {found[2]}: it is an older copy, "
+    form = (
+        "{source}: this book doesn't have the head of action {number:,} {head}: it is an older copy, "
         "another book, or its journal was written anew"
-    ]
+        if found[1]
+        else "{source}: this book doesn't have the head {head}: it is an older copy, another book, or "
+        "its journal was written anew"
+    )
+    return [Sentence(form, source=source, number=int(found[1] or 0), head=found[2])]
 
 
 def wrong_bundle(book: Store, path: str) -> list[str]:
     """Return what is wrong with what a bundle says of a book, in lines."""
     named = bundle_manifest(path).book
     if not named:
-        return [f"{path}: it names no head of a book: plantbal-desk archive --book names it"]
+        return [BookRemedy.NAME_A_HEAD(path=path).sentence]
     return missing_head(book, path, f"{named['number']} {named['head']}")
 
 
@@ -122,7 +129,8 @@ def unlinked_bundles(paths: Sequence[str]) -> Iterator[str]:
     for before, path in zip(paths, paths[1:]):
         named = bundle_manifest(path).before
         if named.get("sha256") != digest(read_bytes(before)[1]):
-            yield f"{path}: it doesn't name {before} as the bundle before it"
+            form = "{path}: it doesn't name {before} as the bundle before it"
+            yield Sentence(form, path=path, before=before)
 
 
 def accept(book: Store, file: str, *, why: str, who: str = "") -> AcceptedFile:
@@ -134,8 +142,10 @@ def accept(book: Store, file: str, *, why: str, who: str = "") -> AcceptedFile:
         if name not in found:
             if name in state_of(book.journal()):
                 return AcceptedFile(name, "")
-            known = f"these are: {', '.join(found)}" if found else "all files are as it says"
-            what = f"{name} isn't a file of this book that differs from its journal"
+            form = "these are: {names}" if found else "all files are as it says"
+            known = Sentence(form, names=", ".join(found))
+            form = "{name} isn't a file of this book that differs from its journal"
+            what = Sentence(form, name=name)
             raise Fault(what, text=name, remedy=known)
         action = Action(Act.ACCEPT, name, found[name].said(), why, who)
         if name == JOURNAL:

@@ -11,11 +11,13 @@ from plantbal.book.forms import window_file, year_file
 from plantbal.book.overview import is_window_older
 from plantbal.book.reporting import keep_as, written_of
 from plantbal.book.results import Windowed
+from plantbal.book.rounds import settled
 from plantbal.book.store import Act, Action, Store
 from plantbal.book.years import Years
 from plantbal.faults import Fault, Refusal
 from plantbal.program import RunSettings
 from plantbal.report.blocks import Block
+from plantbal.sentence import Figure, Sentence
 from plantbal.study.uncertainty import uncertainty_of
 
 
@@ -27,7 +29,7 @@ def window(
         years = Years(book)
         ledger = years.of_period(first)
         if years.of_period(last) is not ledger:
-            what = f"{first} and {last} are of two years"
+            what = Sentence("{first} and {last} are of two years", first=first, last=last)
             raise Fault(what, remedy="a window is of periods of one year's session")
         try:
             ledger.session.judge(("window", first, last))
@@ -35,7 +37,7 @@ def window(
             raise Fault(refusal.said, text=refusal.text, remedy=refusal.remedy) from refusal
         asked = f"{book.text(f'{ledger.name}.csv')}window,{first},{last}\n"
         name = window_file(first, last)
-        text, output = written_of(settings, asked, f"{first} to {last}")
+        text, output = written_of(settled(book, name, settings), asked, f"{first} to {last}")
         action = Action(Act.WINDOW, f"{first} {last}", who=who)
         action.program = program_digest(settings.program)
         new = keep_as(book, action, ledger, name, text)
@@ -61,7 +63,8 @@ def undipped(block: Block) -> Iterator[str]:
         if not spot.is_content or row["value"]:
             continue
         if row["name"] not in sd:
-            yield f"{spot.shown}: nothing determines what it held"
+            yield Sentence("{name}: nothing determines what it held", name=spot.shown)
         else:
-            held = f"{tonnes_text(int(row['flow']))} t ± {sd[row['name']]:,.3f} t"
-            yield f"{spot.shown}: {held}, by the flows around it"
+            held = Figure(f"{tonnes_text(int(row['flow']))} t ± {sd[row['name']]:,.3f} t")
+            form = "{name}: {held}, by the flows around it"
+            yield Sentence(form, name=spot.shown, held=held)

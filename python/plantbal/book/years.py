@@ -8,9 +8,11 @@ from collections.abc import Callable, Iterable
 from dataclasses import dataclass
 
 from plantbal.book.ledger import BookFact, YearLedger
+from plantbal.book.remedies import BookRemedy
 from plantbal.book.store import Act, Store
 from plantbal.faults import Fault, InputFault, Place
 from plantbal.model.forms import FIRST_DAY, LAST_DAY, day_number, day_of_number
+from plantbal.sentence import Sentence
 
 _DAY = datetime.timedelta(1)
 # Before the first period of a year may stand days of the year before it, such as the 26th of
@@ -73,7 +75,7 @@ def periods_of(file: str, text: str) -> dict[str, tuple[bool, datetime.date]]:
                 found[name] = False, day_of_number(last)
             else:
                 raise InputFault(
-                    f"this {kind} row isn't one that a command writes",
+                    Sentence("this {kind} row isn't one that a command writes", kind=kind),
                     place=Place(file=file, line=number),
                     text=line,
                     remedy="put the file back as it was, from a backup",
@@ -170,9 +172,8 @@ class Years:
         if name is None:
             return self.last
         if name not in names:
-            raise Fault(
-                f"there is no year {name}", text=name, remedy=f"use one of {', '.join(names)}"
-            )
+            remedy = Sentence("use one of {words}", words=", ".join(names))
+            raise Fault(Sentence("there is no year {name}", name=name), text=name, remedy=remedy)
         return self[name]
 
     def all(self) -> list[YearLedger]:
@@ -219,8 +220,10 @@ class Years:
             if name in span.periods:
                 return self[span.name]
         names = [period for span in self.spans for period in span.periods]
-        remedy = f"the periods are {', '.join(names)}" if names else "add a workbook first"
-        raise Fault(f"there is no period {name} in this book", text=name, remedy=remedy)
+        form = "the periods are {names}" if names else "add a workbook first"
+        remedy = Sentence(form, names=", ".join(names))
+        what = Sentence("there is no period {name} in this book", name=name)
+        raise Fault(what, text=name, remedy=remedy)
 
     def open_periods(self) -> list[str]:
         """Return the periods that aren't closed, in the order in which they were declared."""
@@ -234,12 +237,12 @@ class Years:
                 continue
             last = self.spans[-1]
             if fact.first > last.last:
-                what = f"{fact.id}: {fact.first} comes after {last.name}"
-                year = fact.first.year
-                remedy = f"correct the day, or begin the next year: plantbal-desk book next {year}"
+                form = "{id}: {day} comes after {year}"
+                what = Sentence(form, id=fact.id, day=fact.first, year=last.name)
+                remedy = BookRemedy.CORRECT_OR_NEXT(year=fact.first.year).sentence
             else:
-                first = self.spans[0]
-                what = f"{fact.id}: {fact.first} is before {first.name}, the book's first year"
-                remedy = "correct the day"
+                form = "{id}: {day} is before {year}, the book's first year"
+                what = Sentence(form, id=fact.id, day=fact.first, year=self.spans[0].name)
+                remedy = Sentence("correct the day")
             faults.append(Fault(what, text=str(fact.first), remedy=remedy))
         return faults

@@ -11,6 +11,11 @@ from plantbal.program import RunSettings
 from plantbal.workbook.mapping.form import read_mapping
 from plantbal.workbook.options import ReadingOptions
 
+# How many suspects are taken out of a report of a book if nobody says it.
+AS_LAST_REPORT = "as many as the last report of the period was made with, or none"
+AS_REPORTED = "none; with --book as many as its reports of the session were made with"
+AS_LAST_WINDOW = "as many as the last report of the window was made with, or none"
+
 
 def seconds_of(text: str) -> float:
     """Return a number of seconds.
@@ -72,14 +77,27 @@ def add_sweeps(parser: argparse.ArgumentParser) -> None:
     parser.add_argument("--sweeps", metavar="N", type=allowed, default=5000, help=sweeps)
 
 
-def add_run(parser: argparse.ArgumentParser) -> None:
-    """Add the words of a run: its program, how far it goes, and which tests it makes."""
+def add_run(parser: argparse.ArgumentParser, *, default: str = "none") -> None:
+    """Add the words of a run: its program, how far it goes, and which tests it makes.
+
+    Parameters
+    ----------
+    parser : ArgumentParser
+        What they are added to.
+    default : str
+        How many suspects are taken out if nobody says it, as the help has it.
+    """
     add_program(parser)
     add_sweeps(parser)
     parser.add_argument("--no-tests", action="store_true", help="make no tests")
-    rounds = "take out at most N suspects, one in each round"
+    add_rounds(parser, default=default)
+
+
+def add_rounds(parser: argparse.ArgumentParser, *, default: str, condition: str = "") -> None:
+    """Add the word that says how many suspects are taken out, perhaps only under a condition."""
+    rounds = f"{condition}take out at most N suspects, one in each round (default: {default})"
     allowed = whole_between(0, schema().limits["most_rounds"])
-    parser.add_argument("--eliminate", metavar="N", type=allowed, default=0, help=rounds)
+    parser.add_argument("--eliminate", metavar="N", type=allowed, help=rounds)
 
 
 def add_reading(parser: argparse.ArgumentParser) -> None:

@@ -102,7 +102,7 @@ def _run(options: argparse.Namespace) -> int:
             output = run(
                 data,
                 tests=not options.no_tests,
-                eliminate=options.eliminate,
+                eliminate=options.eliminate or 0,
                 gap=options.gap,
                 sweeps=options.sweeps,
                 program=options.program,

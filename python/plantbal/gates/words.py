@@ -202,11 +202,17 @@ _SAID: dict[Gate, Callable[[Stop], str]] = {
 
 
 def _close_level(stop: Stop) -> str:
-    """Return what to write for a level that is outside the range of the others."""
+    """Return what to write for a level that is outside the range of the others.
+
+    It is one in whole millimetres, so the decimals of metres are lost.
+    """
     values = stop.values
     if values["mm"] and values["low"] <= values["mm"] * 1000 <= values["top"]:
-        what = "if it is in metres, write {mm} mm; else look at its digits"
-        return Sentence(what, mm=values["mm"] * 1000)
+        what = (
+            "if it is in metres, write it in mm with all its decimals, such as {more} mm for exactly "
+            "{mm} m; else look at its digits"
+        )
+        return Sentence(what, mm=values["mm"], more=values["mm"] * 1000)
     return "look at its digits and its unit"
 
 

@@ -11,6 +11,7 @@ from plantbal.faults import read_text
 from plantbal.lint.findings import Finding, place_in
 from plantbal.model.ledger import Ledger
 from plantbal.model.plant import ENV
+from plantbal.sentence import Sentence
 
 
 def lacking(ledger: Ledger, file: str | Path) -> Iterator[Finding]:
@@ -39,7 +40,8 @@ def without_account(ledger: Ledger, accounts: Accounts) -> Iterator[Finding]:
     for name, stream in ledger.streams.items():
         row = accounts.get(name)
         if row is None or row.product == NO_ACCOUNT:
-            what = f"{name} is in no account" if row is None else f"{name} has no product"
+            form = "{name} is in no account" if row is None else "{name} has no product"
+            what = Sentence(form, name=name)
             remedy = "write it into the sheet accounts, and add that to the book"
             yield Finding("no-account", what, remedy, place_in(ledger, stream.line), name)
 
@@ -57,5 +59,5 @@ def without_owner(ledger: Ledger, accounts: Accounts) -> Iterator[Finding]:
         ):
             remedy = "write its owner, shares, by receipts or by stock into the column owner"
             place = place_in(ledger, stream.line)
-            what = f"{name} has no owner: it belongs to nobody"
+            what = Sentence("{name} has no owner: it belongs to nobody", name=name)
             yield Finding("no-owner", what, remedy, place, name)

@@ -8,10 +8,12 @@ from math import isqrt
 from statistics import median_low
 
 from plantbal.lint.findings import Finding, place_in, some_of
+from plantbal.lint.remedies import LintRemedy
 from plantbal.lint.studies import classes_in
 from plantbal.lint.values import FEWEST_OF_A_MEDIAN, GREAT_TIMES, SMALL_PART
 from plantbal.model.booking import Assay
 from plantbal.model.ledger import Ledger
+from plantbal.sentence import Sentence, counted
 
 
 def assays(ledger: Ledger) -> Iterator[Finding]:
@@ -23,10 +25,15 @@ def assays(ledger: Ledger) -> Iterator[Finding]:
         lines = [ledger.state.assays[component, name, period].line for name in names]
         balanced = ledger.balanced.get((component, period))
         asked = balanced.line if balanced else None
-        count = "1 assay" if len(names) == 1 else f"{len(names)} assays"
-        remedy = f"add `component,{component},{period}`"
+        words = {"component": component, "period": period}
         if asked is None:
-            text = f"{count} of {component} in {period}, and no balance is asked for"
+            text = counted(
+                len(names),
+                "1 assay of {component} in {period}, and no balance is asked for",
+                "{count} assays of {component} in {period}, and no balance is asked for",
+                **words,
+            )
+            remedy = Sentence("add `component,{component},{period}`", **words)
             # without its report either, the period isn't what this session is run for
             if period in ledger.reported or not ledger.reported:
                 yield Finding(
@@ -34,17 +41,25 @@ def assays(ledger: Ledger) -> Iterator[Finding]:
                 )
         elif max(lines) > asked:
             late = [name for name, line in zip(names, lines) if line > asked]
-            verb = "comes" if len(late) == 1 else "come"
-            text = f"{some_of(late)} {verb} after the last balance of {component} in {period}"
-            remedy = f"put `component,{component},{period}` after the last of them"
+            text = counted(
+                len(late),
+                "{names} comes after the last balance of {component} in {period}",
+                "{names} come after the last balance of {component} in {period}",
+                names=some_of(late),
+                **words,
+            )
+            remedy = Sentence(
+                "put `component,{component},{period}` after the last of them", **words
+            )
             yield Finding(
                 "after-balance", text, remedy, place_in(ledger, max(lines)), period=period
             )
         elif len(names) == 1:
-            text = f"{names[0]} alone has an assay of {component} in {period}: nothing checks it"
-            remedy = "enter those of feed, products and tailings"
+            form = "{name} alone has an assay of {component} in {period}: nothing checks it"
+            text = Sentence(form, name=names[0], **words)
+            alone = "enter those of feed, products and tailings"
             yield Finding(
-                "unchecked-grade", text, remedy, place_in(ledger, lines[0]), names[0], period
+                "unchecked-grade", text, alone, place_in(ledger, lines[0]), names[0], period
             )
 
 
@@ -59,10 +74,12 @@ def unused_assays(ledger: Ledger) -> Iterator[Finding]:
         classes = classes_in(ledger, balanced)
         for name in names:
             if classes[name] == "unobservable":
-                text = f"nothing determines the flow of {name} in {period}, so the balance of "
-                text += f"{component} leaves its assay out"
-                remedy = "assays may determine it: plantbal-desk balance reconciles both at once; "
-                remedy += "or book what is missing, or measure a stream of its cycle"
+                form = (
+                    "nothing determines the flow of {name} in {period}, so the balance of "
+                    "{component} leaves its assay out"
+                )
+                text = Sentence(form, name=name, period=period, component=component)
+                remedy = LintRemedy.BY_ASSAYS().sentence
                 line = ledger.state.assays[component, name, period].line
                 yield Finding("unused-assay", text, remedy, place_in(ledger, line), name, period)
 
@@ -75,8 +92,15 @@ def grades(ledger: Ledger) -> Iterator[Finding]:
         of[component, name].append((period, assay))
         if assay.variance > assay.ppm**2 > 0:
             deviation = isqrt(assay.variance)
-            text = f"the assay of {component} in {name} in {period} has a standard deviation of "
-            text += f"{deviation:,} ppm, more than its grade, {assay.ppm:,} ppm"
+            text = Sentence(
+                "the assay of {component} in {name} in {period} has a standard deviation of "
+                "{deviation:,} ppm, more than its grade, {ppm:,} ppm",
+                component=component,
+                name=name,
+                period=period,
+                deviation=deviation,
+                ppm=assay.ppm,
+            )
             remedy = "look for a digit too many in GRADEVAR, in squares of parts per million"
             place = place_in(ledger, assay.line)
             yield Finding("large-deviation", text, remedy, place, name, period)
@@ -88,9 +112,11 @@ def grades(ledger: Ledger) -> Iterator[Finding]:
         for period, assay in some:
             is_great = assay.ppm >= GREAT_TIMES * middle
             if is_great or 0 < assay.ppm * SMALL_PART <= middle:
-                text = (
-                    f"{name} has {assay.ppm:,} ppm of {component} in {period}, "
-                    f"and {middle:,} ppm in the middle of its periods"
+                form = (
+                    "{name} has {ppm:,} ppm of {component} in {period}, "
+                    "and {middle:,} ppm in the middle of its periods"
                 )
+                names = {"name": name, "component": component, "period": period}
+                text = Sentence(form, ppm=assay.ppm, middle=middle, **names)
                 remedy = "a percent is 10,000 ppm, a gram per tonne is 1 ppm: look at the unit"
                 yield Finding("grade", text, remedy, place_in(ledger, assay.line), name, period)

@@ -163,6 +163,8 @@ def some_of(items: Sequence[str], most: int = 4) -> str:
 def one_line(text: str, most: int = 160) -> str:
     """Return a text without line ends, and not all of it if it is long."""
     line = text.replace("\r", " ").replace("\n", " ")
+    if line == text and len(line) <= most:
+        return text
     return line if len(line) <= most else f"{line[: most // 2]} .. {line[-most // 2 :]}"
 
 

@@ -8,13 +8,14 @@ from collections.abc import Iterator, Sequence
 
 from plantbal.faults import Refusal
 from plantbal.lint.findings import Finding, called, of_facts, one_line, place_in, some_of, span_said
+from plantbal.lint.remedies import LintRemedy
 from plantbal.lint.studies import classes_in
 from plantbal.model.facts import Fact
 from plantbal.model.forms import day_text
 from plantbal.model.ledger import Ledger
 from plantbal.model.periods import Period
 from plantbal.schema import schema
-from plantbal.sentence import Day, Sentence, counted
+from plantbal.sentence import Day, Phrase, Sentence, counted
 
 
 def refused_rows(ledger: Ledger, left_out: Sequence[Refusal]) -> Iterator[Finding]:
@@ -23,33 +24,42 @@ def refused_rows(ledger: Ledger, left_out: Sequence[Refusal]) -> Iterator[Findin
     if not refused:
         return
     count = len(left_out) + ledger.refused.total
-    text = f"{count} rows are refused" if count > 1 else "1 row is refused"
     after = [each for each in ledger.reported.values() if each.refused or left_out]
-    if after:
-        names = some_of([each.period.name for each in after])
-        report = "the report" if len(after) == 1 else "the reports"
-        text += f", and {report} of {names} {'is' if len(after) == 1 else 'are'} made without "
-        text += "them" if count > 1 else "it"
+    text = _refused_said(count, [each.period.name for each in after])
     first = refused[0]
     place = first.place if first.place.line else place_in(ledger, None)
     whole = _whole_file(ledger)
     if whole:
-        yield Finding("refused", f"{text}: {whole}", 'save it as "CSV UTF-8", with commas', place)
+        said = Sentence("{text}: {first}", text=text, first=whole)
+        yield Finding("refused", said, 'save it as "CSV UTF-8", with commas', place)
     else:
-        what = one_line(first.what)
-        text += f": {what}" if count == 1 else f"; the first, {what}"
-        yield Finding("refused", text, first.remedy, place)
+        form = "{text}: {first}" if count == 1 else "{text}; the first, {first}"
+        said = Sentence(form, text=text, first=one_line(first.what))
+        yield Finding("refused", said, first.remedy, place)
+
+
+def _refused_said(count: int, reports: Sequence[str]) -> Sentence:
+    """Return how many rows are refused, and which reports are made without them."""
+    if not reports:
+        return counted(count, "1 row is refused", "{count} rows are refused")
+    if len(reports) == 1:
+        one = "1 row is refused, and the report of {names} is made without it"
+        many = "{count} rows are refused, and the report of {names} is made without them"
+    else:
+        one = "1 row is refused, and the reports of {names} are made without it"
+        many = "{count} rows are refused, and the reports of {names} are made without them"
+    return counted(count, one, many, names=some_of(reports))
 
 
 def _whole_file(ledger: Ledger) -> str:
     """Return what is wrong with the file as a whole, or nothing."""
     if ledger.data.startswith((b"\xff\xfe", b"\xfe\xff")) or b"\0" in ledger.data[:100]:
-        return "this is UTF-16"
+        return Phrase("this is UTF-16")
     first = ledger.refused[0].row[:1] if ledger.refused else ()
     kinds = {row.kind for row in schema().session}
-    for sign, name in ((";", "semicolons"), ("\t", "tabs")):
+    for sign, name in ((";", Phrase("semicolons")), ("\t", Phrase("tabs"))):
         if first and sign in first[0] and first[0].split(sign)[0] in kinds:
-            return f"fields have {name} between them"
+            return Sentence("fields have {name} between them", name=name)
     return ""
 
 
@@ -58,15 +68,18 @@ def nothing_asked(ledger: Ledger) -> Iterator[Finding]:
     if ledger.asked - {"design", "advise"} or (ledger.asked and not ledger.state.facts):
         return
     if not ledger.rows:
-        text = "there is no row"
+        text = Sentence("there is no row")
     elif ledger.state.facts:
-        count = len(ledger.state.facts)
-        facts = "1 fact is" if count == 1 else f"{count:,} facts are"
-        text = f"{facts} there, and no report is asked for"
+        text = counted(
+            len(ledger.state.facts),
+            "1 fact is there, and no report is asked for",
+            "{count:,} facts are there, and no report is asked for",
+        )
     else:
-        text = "no report, window, balance, design, advice or history is asked for"
-    periods = list(ledger.periods)
-    remedy = f"add `report,{periods[-1]}`" if periods else "add a period, its facts and its report"
+        text = Sentence("no report, window, balance, design, advice or history is asked for")
+    remedy = Sentence("add a period, its facts and its report")
+    for last in list(ledger.periods)[-1:]:
+        remedy = Sentence("add `report,{name}`", name=last)
     yield Finding("nothing-asked", text, remedy, place_in(ledger, None))
 
 
@@ -130,12 +143,7 @@ def _by_window(ledger: Ledger, period: Period, days: Sequence[int]) -> str:
     for other in ledger.state.periods.within(period.first - 1, period.last + 1):
         one, next_ = sorted((period, other), key=lambda each: each.first)
         if one is not next_ and one.last in days and (one.name, next_.name) not in ledger.windows:
-            return Sentence(
-                "book the dip; a tank that stood still has the same dip on both days; if nobody "
-                "dipped it, `window,{one},{after}` has what it held",
-                one=one.name,
-                after=next_.name,
-            )
+            return LintRemedy.BY_WINDOW(one=one.name, after=next_.name).sentence
     return ""
 
 
@@ -177,7 +185,8 @@ def in_no_period(ledger: Ledger) -> Iterator[Finding]:
     """Yield the facts that lie in no period."""
     lost = _in_none(ledger)
     if lost and not ledger.periods:
-        text = f"no period is declared, and {len(lost)} facts count nowhere"
+        form = "no period is declared, and {count} facts count nowhere"
+        text = Sentence(form, count=len(lost))
         line = min(fact.line for fact in lost)
         yield Finding("no-period", text, "add a period and its report", place_in(ledger, line))
         return
@@ -191,15 +200,18 @@ def in_no_period(ledger: Ledger) -> Iterator[Finding]:
 
     def strayed(fact: Fact, day: int) -> tuple[str, str]:
         """Return what is said of a fact in no period."""
-        text = f"{called(fact)} is of {day_text(day)}, which is in no period"
+        words = {"fact": called(fact), "day": Day(day_text(day))}
+        text = Sentence("{fact} is of {day}, which is in no period", **words)
         correct = "correct its date, or declare a period that includes it"
         return text, _other_year(ledger, fact) or correct
 
     def idle(fact: Fact, day: int) -> tuple[str, str]:
         """Return what is said of a dip that counts nowhere."""
-        text = (
-            f"{called(fact)} is of {day_text(day)}, neither the last day of a period "
-            "nor the day before one, so it counts nowhere"
+        text = Sentence(
+            "{fact} is of {day}, neither the last day of a period nor the day before one, so it "
+            "counts nowhere",
+            fact=called(fact),
+            day=Day(day_text(day)),
         )
         return text, "it does no harm"
 
@@ -217,7 +229,7 @@ def _other_year(ledger: Ledger, fact: Fact) -> str:
             except ValueError:
                 continue
             if period.first - 1 <= moved.toordinal() <= period.last:
-                return f"did you mean {moved}?"
+                return Sentence("did you mean {near}?", near=moved)
     return ""
 
 
@@ -240,11 +252,15 @@ def after_report(ledger: Ledger) -> Iterator[Finding]:
                 late[each.period.name].append(fact)
     for name, facts in late.items():
         line = min(fact.changed for fact in facts)
-        one = len(facts) == 1
-        rows = "1 row of a fact comes" if one else f"rows of {len(facts)} facts come"
-        them = "it" if one else "them"
-        text = f"{rows} after the last report of {name}, which is made without {them}"
-        remedy = f"put `report,{name}` after {them}"
+        text = counted(
+            len(facts),
+            "1 row of a fact comes after the last report of {name}, which is made without it",
+            "rows of {count} facts come after the last report of {name}, which is made without "
+            "them",
+            name=name,
+        )
+        one, many = "put `report,{name}` after it", "put `report,{name}` after them"
+        remedy = counted(len(facts), one, many, name=name)
         yield Finding("after-report", text, remedy, place_in(ledger, line), period=name)
 
 
@@ -260,7 +276,8 @@ def no_transfers(ledger: Ledger) -> Iterator[Finding]:
         for stream, declared in ledger.streams.items():
             served = declared.is_in(reported.period)
             if declared.kind == "batch" and served and name not in of[stream]:
-                text = f"{stream} has no transfer in {name}, and counts as 0 there"
+                form = "{stream} has no transfer in {name}, and counts as 0 there"
+                text = Sentence(form, stream=stream, name=name)
                 yield Finding(
                     "no-transfer",
                     text,
@@ -298,8 +315,11 @@ def not_reported(ledger: Ledger) -> Iterator[Finding]:
                 count[period.name] += fact.kind != "dip" or fact.first == period.last
     for name, facts in count.items():
         if facts and name not in ledger.reported and name not in within:
-            some = "1 fact" if facts == 1 else f"{facts} facts"
-            text = f"{name} has {some}, and no report is asked for"
-            yield Finding(
-                "not-reported", text, f"add `report,{name}`", place_in(ledger, None), period=name
+            text = counted(
+                facts,
+                "{name} has 1 fact, and no report is asked for",
+                "{name} has {count} facts, and no report is asked for",
+                name=name,
             )
+            remedy = Sentence("add `report,{name}`", name=name)
+            yield Finding("not-reported", text, remedy, place_in(ledger, None), period=name)

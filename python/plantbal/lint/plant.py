@@ -13,7 +13,7 @@ from plantbal.lint.findings import Finding, place_in, some_of
 from plantbal.model.forms import LIMITS, day_text
 from plantbal.model.ledger import Ledger
 from plantbal.model.plant import ENV, most_streams
-from plantbal.sentence import Sentence
+from plantbal.sentence import Day, Phrase, Sentence
 
 # A letter is mistyped in a word of this many; shorter ones are marks, such as HP and LP.
 LONG_WORD = 4
@@ -35,11 +35,14 @@ def one_sided(ledger: Ledger) -> Iterator[Finding]:
     lacking = [unit for unit in units if not (into[unit] and out_of[unit])]
     for number, unit in enumerate(lacking):
         if not into[unit] and not out_of[unit]:
-            text = f"no stream leads to unit {unit}, and none from it"
-        elif into[unit]:
-            text = f"nothing goes out of unit {unit}: {_zero(ledger, into[unit])}"
+            text = Sentence("no stream leads to unit {unit}, and none from it", unit=unit)
         else:
-            text = f"nothing comes in at unit {unit}: {_zero(ledger, out_of[unit])}"
+            form = (
+                "nothing goes out of unit {unit}: {zero}"
+                if into[unit]
+                else "nothing comes in at unit {unit}: {zero}"
+            )
+            text = Sentence(form, unit=unit, zero=_zero(ledger, into[unit] or out_of[unit]))
         others = [node for node in ledger.nodes if node not in (unit, ENV)]
         if number >= MOST_GUESSES:
             others = []
@@ -48,7 +51,7 @@ def one_sided(ledger: Ledger) -> Iterator[Finding]:
         if not into[unit] and not out_of[unit]:
             remedy = "correct the end of a stream, add one, or leave the unit out"
         if near:
-            remedy = f"did you mean {near[0]}?"
+            remedy = Sentence("did you mean {near}?", near=near[0])
         yield Finding(
             "one-sided", text, remedy, place_in(ledger, ledger.state.plant.lines.get(unit)), unit
         )
@@ -60,8 +63,9 @@ def never_served(ledger: Ledger) -> Iterator[Finding]:
         if stream.service is None or not ledger.periods:
             continue
         if not any(stream.is_in(period) for period in ledger.periods.values()):
-            since, until = map(day_text, stream.service)
-            text = f"{name} is in service from {since} to {until}, on no day of a period"
+            since, until = (Day(day_text(day)) for day in stream.service)
+            form = "{name} is in service from {since} to {until}, on no day of a period"
+            text = Sentence(form, name=name, since=since, until=until)
             remedy = "correct its dates of service, or declare a period that has one of them"
             yield Finding("never-served", text, remedy, place_in(ledger, stream.line), name)
 
@@ -70,9 +74,13 @@ def _zero(ledger: Ledger, streams: list[str]) -> str:
     """Return what a unit with one side makes of its streams."""
     if len(streams) == 1:
         kind = ledger.streams[streams[0]].kind
-        said = {"metered": ", whatever its meter says", "batch": ", whatever its tickets say"}
-        return f"{streams[0]} is booked as 0{said.get(kind, '')}"
-    return f"{some_of(streams)} are booked so that they add up to 0"
+        said = {
+            "metered": "{name} is booked as 0, whatever its meter says",
+            "batch": "{name} is booked as 0, whatever its tickets say",
+        }
+        return Sentence(said.get(kind, "{name} is booked as 0"), name=streams[0])
+    form = "{names} are booked so that they add up to 0"
+    return Sentence(form, names=some_of(streams))
 
 
 _WORD = re.compile(r"[A-Za-z]+")
@@ -174,15 +182,36 @@ def nearly_full(ledger: Ledger) -> Iterator[Finding]:
     points = max((len(table) for table in ledger.state.plant.tables.values()), default=0)
     another, split = "begin another session, with the plant's rows again", "split the plant"
     for count, limit, what, remedy in (
-        (len(ledger.state.facts), LIMITS["most_facts"], "readings, transfers and dips", another),
-        (len(ledger.state.assays), LIMITS["most_assays"], "assays", another),
-        (len(ledger.periods), LIMITS["most_periods"], "periods", another),
-        (len(ledger.nodes) - 1, LIMITS["most_units_and_tanks"], "units and tanks", split),
-        (len(ledger.streams), most_streams(ledger.state.version), "streams and tanks", split),
-        (len(ledger.state.plant.boundaries), LIMITS["most_boundaries"], "boundaries", split),
-        (points, LIMITS["most_points"], "points of a tank's table", "leave some points out"),
-        (len(ledger.data), LIMITS["most_bytes"], "bytes", another),
+        (
+            len(ledger.state.facts),
+            LIMITS["most_facts"],
+            Phrase("readings, transfers and dips"),
+            another,
+        ),
+        (len(ledger.state.assays), LIMITS["most_assays"], Phrase("assays"), another),
+        (len(ledger.periods), LIMITS["most_periods"], Phrase("periods"), another),
+        (len(ledger.nodes) - 1, LIMITS["most_units_and_tanks"], Phrase("units and tanks"), split),
+        (
+            len(ledger.streams),
+            most_streams(ledger.state.version),
+            Phrase("streams and tanks"),
+            split,
+        ),
+        (
+            len(ledger.state.plant.boundaries),
+            LIMITS["most_boundaries"],
+            Phrase("boundaries"),
+            split,
+        ),
+        (
+            points,
+            LIMITS["most_points"],
+            Phrase("points of a tank's table"),
+            "leave some points out",
+        ),
+        (len(ledger.data), LIMITS["most_bytes"], Phrase("bytes"), another),
     ):
         if count * 100 >= limit * FULL_PERCENT:
-            text = f"{count:,} {what} are there, and at most {limit:,} may be"
+            form = "{count:,} {what} are there, and at most {limit:,} may be"
+            text = Sentence(form, count=count, what=what, limit=limit)
             yield Finding("nearly-full", text, remedy, place_in(ledger, None))

@@ -20,6 +20,7 @@ from plantbal.lint.findings import Finding, place_in, tonnes_said
 from plantbal.model.facts import Fact
 from plantbal.model.ledger import Ledger, Seen
 from plantbal.model.studies import measured_in
+from plantbal.sentence import Sentence
 
 # So many readings say what a meter usually reads; in a month and before it.
 FEWEST = 10
@@ -49,10 +50,17 @@ def exchanged(ledger: Ledger) -> Iterator[Finding]:
         for one, other in combinations(moved, 2):
             if _alike(now[one], before[other], ALIKE) and _alike(now[other], before[one], ALIKE):
                 period = seen.period.name
-                text = (
-                    f"{one} and {other} may have changed places in {period}: {one} reads "
-                    f"{_tonnes(now[one])} on most days and read {_tonnes(before[one])} before, "
-                    f"{other} reads {_tonnes(now[other])} and read {_tonnes(before[other])}"
+                text = Sentence(
+                    "{one} and {other} may have changed places in {period}: {one} reads {one_now} "
+                    "on most days and read {one_before} before, {other} reads {other_now} and read "
+                    "{other_before}",
+                    one=one,
+                    other=other,
+                    period=period,
+                    one_now=_tonnes(now[one]),
+                    one_before=_tonnes(before[one]),
+                    other_now=_tonnes(now[other]),
+                    other_before=_tonnes(before[other]),
                 )
                 remedy = "compare the heads of these two columns with the meters"
                 line = seen.view.facts[other][0].line
@@ -124,10 +132,11 @@ def kinks(ledger: Ledger) -> Iterator[Finding]:
             if _breaks(points[at - 2 : at + 3], step):
                 mm, ml = points[at]
                 fits = round(_between(points[at - 1], points[at + 1], mm))
-                text = (
-                    f"the table of {tank} has {ml:,} ml at {mm:,} mm, which breaks its slope: "
-                    f"its neighbours lead to some {fits:,} ml"
+                form = (
+                    "the table of {tank} has {ml:,} ml at {mm:,} mm, which breaks its slope: "
+                    "its neighbours lead to some {fits:,} ml"
                 )
+                text = Sentence(form, tank=tank, ml=ml, mm=mm, fits=fits)
                 remedy = "compare this point with the calibration certificate"
                 line = ledger.state.plant.lines.get(tank)
                 yield Finding("strap-slope", text, remedy, place_in(ledger, line), tank)
@@ -188,19 +197,26 @@ def _scatter_of(ledger: Ledger, seen: Seen, balance: Balance) -> Iterator[Findin
     error = sqrt(total)
     some: tuple[str, ...]
     if variances[widest] > MOST_OF_IT * total and 0 < seen_scatter * TIMES < error:
-        some, word = (widest,), "too great"
+        some = (widest,)
+        form = (
+            "the error of {names} seems too great in {period}: on a day the balance of {nodes} "
+            "scatters by {scatter}, and its errors explain {error}"
+        )
     elif seen_scatter > TIMES * error > 0:
-        some, word = tuple(names), "too small"
+        some = tuple(names)
+        form = (
+            "the errors of {names} seem too small in {period}: on a day the balance of {nodes} "
+            "scatters by {scatter}, and its errors explain {error}"
+        )
     else:
         return
-    who = (
-        f"the error of {widest} seems"
-        if len(some) == 1
-        else f"the errors of {', '.join(some)} seem"
-    )
-    text = (
-        f"{who} {word} in {seen.period.name}: on a day the balance of {' '.join(balance.nodes)} "
-        f"scatters by {_tonnes(seen_scatter)}, and its errors explain {_tonnes(error)}"
+    text = Sentence(
+        form,
+        names=", ".join(some),
+        period=seen.period.name,
+        nodes=" ".join(balance.nodes),
+        scatter=_tonnes(seen_scatter),
+        error=_tonnes(error),
     )
     remedy = (
         "compare the errors of these meters with their certificates: a digit, or percent of what?"

@@ -3,14 +3,16 @@
 from __future__ import annotations
 
 from collections import defaultdict
-from collections.abc import Iterator
+from collections.abc import Iterator, Sequence
 
 from plantbal.kinds import StreamClass
 from plantbal.lint.findings import Finding, place_in, some_of
+from plantbal.lint.remedies import LintRemedy
 from plantbal.model.forms import LIMITS
 from plantbal.model.ledger import Ledger, Seen
 from plantbal.model.periods import Period
 from plantbal.model.topology import classes_of, degrees_of_freedom
+from plantbal.sentence import Phrase, Sentence, counted
 
 
 def classes_in(ledger: Ledger, reported: Seen | None = None) -> dict[str, StreamClass]:
@@ -43,13 +45,33 @@ def worse_classes(ledger: Ledger) -> Iterator[Finding]:
             if name not in without and _RANKS[kind] > _RANKS[design[name]]:
                 worse[kind, design[name]].append(name)
         for (kind, before), names in worse.items():
-            verb = "is" if len(names) == 1 else "are"
-            since = f"{some_of(without)} {'has' if len(without) == 1 else 'have'} no value"
-            text = (
-                f"in {period} {some_of(names)} {verb} {kind}, and {before} by design, since {since}"
+            text = counted(
+                len(names),
+                "in {period} {names} is {kind}, and {before} by design, since {since}",
+                "in {period} {names} are {kind}, and {before} by design, since {since}",
+                period=period,
+                names=some_of(names),
+                kind=Phrase(kind),
+                before=Phrase(before),
+                since=counted(
+                    len(without),
+                    "{names} has no value",
+                    "{names} have no value",
+                    names=some_of(without),
+                ),
             )
-            what = "nothing checks" if kind == "nonredundant" else "nothing determines"
-            remedy = f"{what} {'it' if len(names) == 1 else 'them'}: book what is missing"
+            if kind == "nonredundant":
+                remedy = counted(
+                    len(names),
+                    "nothing checks it: book what is missing",
+                    "nothing checks them: book what is missing",
+                )
+            else:
+                remedy = counted(
+                    len(names),
+                    "nothing determines it: book what is missing",
+                    "nothing determines them: book what is missing",
+                )
             yield Finding(
                 "worse-class", text, remedy, place_in(ledger, reported.line), names[0], period
             )
@@ -65,7 +87,7 @@ def untested_reports(ledger: Ledger) -> Iterator[Finding]:
         yield Finding(
             "untested",
             text,
-            "`plantbal-desk critical 0.05 1-20` writes them",
+            LintRemedy.WRITE_CRITICAL().sentence,
             place_in(ledger, line),
         )
         return
@@ -78,10 +100,14 @@ def untested_reports(ledger: Ledger) -> Iterator[Finding]:
     for dof, some in by_freedom.items():
         if dof and dof not in there:
             names = some_of([each.period.name for each in some])
-            verb = "has" if len(some) == 1 else "have"
-            degrees = "1 degree" if dof == 1 else f"{dof} degrees"
-            text = f"{names} {verb} {degrees} of freedom, and there is no critical value for them"
-            remedy = f"`plantbal-desk critical 0.05 {dof}` writes it"
+            text = counted(
+                len(some),
+                "{names} has {degrees}, and there is no critical value for them",
+                "{names} have {degrees}, and there is no critical value for them",
+                names=names,
+                degrees=counted(dof, "1 degree of freedom", "{count} degrees of freedom"),
+            )
+            remedy = LintRemedy.WRITE_ONE_CRITICAL(dof=dof).sentence
             place = place_in(ledger, some[0].line)
             yield Finding("no-critical", text, remedy, place, period=some[0].period.name)
     most = max(by_freedom)
@@ -89,26 +115,45 @@ def untested_reports(ledger: Ledger) -> Iterator[Finding]:
     lacks = [str(dof) for dof in range(most - 1, least - 1, -1) if dof not in there]
     tests = [test for test in ("measure", "nodal") if (test, 0) not in ledger.state.plant.critical]
     if most and (lacks or tests):
-        degrees = "degree" if lacks == ["1"] else "degrees"
-        parts = [f"for {some_of(lacks)} {degrees} of freedom"] if lacks else []
-        parts += [f"for `{test}`" for test in tests]
-        text = f"an elimination asks for critical values {' and '.join(parts)}, which aren't there"
+        text = Sentence(
+            "an elimination asks for critical values {parts}, which aren't there",
+            parts=_with_and(_lacking_said(lacks, tests)),
+        )
         numbers = sorted(map(int, lacks))
         if numbers and numbers[-1] - numbers[0] == len(numbers) - 1 > 0:
             lacks = [f"{numbers[0]}-{numbers[-1]}"]
         words = " ".join(["critical 0.05", *lacks])
         words += "".join(f" --{test} N" for test in tests)
-        remedy = f"`plantbal-desk {words}` writes them"
-        remedy += ", N being the number of such tests" if tests else ""
+        what = LintRemedy.WRITE_TESTS if tests else LintRemedy.WRITE_LACKING
+        remedy = what(words=words).sentence
         yield Finding("no-elimination", text, remedy, place_in(ledger, line))
+
+
+def _lacking_said(lacks: Sequence[str], tests: Sequence[str]) -> list[Sentence]:
+    """Return for what critical values are missing, each by itself."""
+    one, many = "for {names} degree of freedom", "for {names} degrees of freedom"
+    form = one if list(lacks) == ["1"] else many
+    said = [Sentence(form, names=some_of(lacks))] if lacks else []
+    return said + [Sentence("for `{test}`", test=test) for test in tests]
+
+
+def _with_and(parts: Sequence[Sentence]) -> Sentence:
+    """Return parts with `and` between them."""
+    said = parts[0]
+    for part in parts[1:]:
+        said = Sentence("{names} and {last}", names=said, last=part)
+    return said
 
 
 def costs(ledger: Ledger) -> Iterator[Finding]:
     """Give the plain streams whose meters have no cost, beside others that have one."""
     for line, names in ledger.uncosted.items():
         if names:
-            verb = "has" if len(names) == 1 else "have"
-            counts = "counts" if len(names) == 1 else "count"
-            text = f"{some_of(names)} {verb} no cost in this advise row, and {counts} as 1"
+            text = counted(
+                len(names),
+                "{names} has no cost in this advise row, and counts as 1",
+                "{names} have no cost in this advise row, and count as 1",
+                names=some_of(names),
+            )
             remedy = "add the costs, or name a cost of 1 if that is meant"
             yield Finding("no-cost", text, remedy, place_in(ledger, line), names[0])

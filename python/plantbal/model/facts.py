@@ -6,7 +6,7 @@ A run of readings waits as it came in, and its facts are made when one of them i
 from __future__ import annotations
 
 from collections import Counter
-from collections.abc import Callable, Iterable, Iterator, Sequence
+from collections.abc import Callable, Collection, Iterable, Iterator, Sequence
 from operator import add
 from typing import TYPE_CHECKING, Generic, NamedTuple, TypeVar
 
@@ -181,6 +181,10 @@ class Facts:
         """Return the facts that aren't struck."""
         return [fact for fact in self._made() if not fact.struck]
 
+    def live_of(self, places: Collection[str]) -> list[Fact]:
+        """Return the facts of some streams and tanks that aren't struck."""
+        return [fact for fact in self._made() if fact.of in places and not fact.struck]
+
     def find(self, identity: str) -> Fact | None:
         """Return the fact of an id, struck or not, or None."""
         facts, number = self._made(), self._ids.made.get(identity)
@@ -189,6 +193,11 @@ class Facts:
     def has(self, of: str, day: int) -> bool:
         """Say whether a stream has a reading of a day, or a tank a dip."""
         return self._slot(of, day) in self._seen(self._slots)
+
+    def days_without(self, of: str, days: Iterable[int]) -> list[int]:
+        """Return those of some days on which a stream has no reading, or a tank no dip."""
+        slots, first = self._seen(self._slots), self._of[of]
+        return [day for day in days if first + day not in slots]
 
     def on(self, of: str, day: int) -> Fact | None:
         """Return the reading or the dip of a day, or None."""

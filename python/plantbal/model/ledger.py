@@ -9,7 +9,7 @@ from __future__ import annotations
 
 import hashlib
 from collections import Counter, defaultdict
-from collections.abc import Callable
+from collections.abc import Callable, Collection
 from dataclasses import dataclass, field, replace
 from functools import cached_property, lru_cache
 from itertools import chain
@@ -254,6 +254,7 @@ class Ledger:
         self.asked: set[str] = set()
         self.uncosted: dict[int, list[str]] = {}
         self.unlooked = self.unlooked_from = 0
+        self._places: Collection[str] | None = None
         self._left = most
         self._last: dict[tuple[str, str, str], Seen] = {}
         self._views: dict[str, View] = {}
@@ -266,10 +267,21 @@ class Ledger:
             self.seen = list(self._last.values())
 
     @classmethod
-    def of_state(cls, source: str, state: State) -> Ledger:
-        """Return a session that was judged already; what its rows saw isn't known."""
+    def of_state(cls, source: str, state: State, places: Collection[str] | None = None) -> Ledger:
+        """Return a session that was judged already; what its rows saw isn't known.
+
+        Parameters
+        ----------
+        source : str
+            What the session is called.
+        state : State
+            What it is.
+        places : collection of str or None
+            The streams and tanks whose facts it is to have; None for all.
+        """
         made = cls(source, b"")
         made.state = state
+        made._places = places
         return made
 
     # ---- rows
@@ -413,7 +425,8 @@ class Ledger:
     @cached_property
     def live(self) -> list[Fact]:
         """The facts that aren't struck."""
-        return self.state.facts.live()
+        facts = self.state.facts
+        return facts.live() if self._places is None else facts.live_of(self._places)
 
     @cached_property
     def amounts(self) -> dict[str, list[Fact]]:

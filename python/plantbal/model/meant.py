@@ -8,11 +8,16 @@ import re
 from collections.abc import Mapping, Sequence
 from dataclasses import dataclass
 from decimal import Decimal, InvalidOperation
+from enum import unique
+
+from plantbal.causes import Causes
+from plantbal.sentence import Phrase, Sentence, phrase
 
 Scale = tuple[str, int, str]
 _UNIT = re.compile(r" ?([a-z]+(/[a-z]+)?3?|%)$", re.IGNORECASE)
 # Its point may stand between thousands, or before decimals.
 _EITHER = re.compile(r"[1-9][0-9]{0,2}\.[0-9]{3}")
+_WRITE = "write {text}"
 _SPACES = "  \t'"
 
 
@@ -26,7 +31,20 @@ def _exact(text: str) -> Decimal | None:
         return None
 
 
-def whole_meant(text: str) -> tuple[int, str] | None:
+@unique
+class Odd(Causes):
+    """What is odd about the form of a whole number, with what to write in its place."""
+
+    SPACE = "write {number}, without the space"
+    OTHER = "write {number}, in digits alone"
+    THOUSANDS = "write {number}, without anything between the thousands"
+    SIGN = "write {number}, without the sign"
+    EXPONENT = "write {number}, if the spreadsheet that wrote an exponent lost no digit"
+    POINT = "write {number}, without the point"
+    ZERO = "write {number}, without the zero in front"
+
+
+def whole_meant(text: str) -> tuple[int, Odd] | None:
     """Return the whole number that a text means, and what is odd about its form.
 
     Parameters
@@ -37,22 +55,22 @@ def whole_meant(text: str) -> tuple[int, str] | None:
     Returns
     -------
     tuple or None
-        The number, and a clause such as ``without the exponent``; None if it means no whole number.
+        The number, and what is odd about it; None if it means no whole number.
     """
     plain = text.strip(_SPACES)
-    odd = "without the space" if plain != text else "in digits alone"
+    odd = Odd.SPACE if plain != text else Odd.OTHER
     grouped = re.fullmatch(r"[-+]?[0-9]{1,3}([ ,.'\u00a0])[0-9]{3}(\1[0-9]{3})*(\.0*)?", plain)
     if grouped and (grouped.group(1) != "." or plain.count(".") > 1):
         plain = plain.replace(grouped.group(1), "")
-        odd = "without anything between the thousands"
+        odd = Odd.THOUSANDS
     elif plain.startswith("+"):
-        odd = "without the sign"
+        odd = Odd.SIGN
     elif re.search("[eE]", plain):
-        odd = "if the spreadsheet that wrote an exponent lost no digit"
+        odd = Odd.EXPONENT
     elif "." in plain:
-        odd = "without the point"
+        odd = Odd.POINT
     elif re.fullmatch(r"-?0[0-9]+", plain):
-        odd = "without the zero in front"
+        odd = Odd.ZERO
     exact = _exact(plain)
     if exact is None or abs(exact) > 10**40 or exact != int(exact):
         return None
@@ -85,9 +103,9 @@ class Meant:
     writes: bool = False
 
 
-def _write(text: str) -> Meant:
+def _write(form: str, text: str) -> Meant:
     """Return what to write in place of a field, or nothing for no text."""
-    return Meant(f"write {text}", True) if text else Meant()
+    return Meant(Sentence(form, text=text), True) if text else Meant()
 
 
 def number_meant(
@@ -116,11 +134,17 @@ def number_meant(
         number, odd = found
         if not low <= number <= high:
             return Meant()
-        for greater, count, own in scales if odd == "without the point" else ():
+        for greater, count, own in scales if odd is Odd.POINT else ():
             if low <= number * count <= high:  # to whole tonnes one writes a point, to grams none
-                many = number * count
-                return _write(f"{many} if it is in {greater}, and {number} if it is in {own}")
-        return Meant() if str(number) == text else _write(f"{number}, {odd}")
+                said = Sentence(
+                    "write {many} if it is in {greater}, and {number} if it is in {own}",
+                    many=number * count,
+                    greater=phrase(greater),
+                    number=number,
+                    own=phrase(own),
+                )
+                return Meant(said, True)
+        return Meant() if str(number) == text else Meant(odd(number=number).sentence, True)
     plain = text.strip(_SPACES)
     if re.fullmatch(r"[-+]?([0-9]+|[0-9]{1,3}(\.[0-9]{3})+),[0-9]+", plain):
         plain = plain.replace(".", "").replace(",", ".")
@@ -129,12 +153,14 @@ def number_meant(
         assert exact is not None
         scaled = exact * count
         if scaled == int(scaled) and low <= scaled <= high:
-            return Meant(f"if {text.strip()} is in {greater}, write {int(scaled)}, in {own}")
+            form = "if {text} is in {greater}, write {number}, in {own}"
+            words = {"text": text.strip(), "greater": phrase(greater), "own": phrase(own)}
+            return Meant(Sentence(form, number=int(scaled), **words))
     if re.fullmatch(r"[0-9]{4}-[0-9]{2}-[0-9]{2}", plain):
         return Meant("this is a day: are the fields in their order?")
     counted = _with_unit(plain, units or {})
     if counted is not None and counted == int(counted) and low <= counted <= high:
-        return _write(f"{int(counted)}, without the unit")
+        return _write("write {text}, without the unit", str(int(counted)))
     unit = (_UNIT.search(plain) or [""])[0].strip().casefold()
     if "kg" in (units or {}) and unit in ("m3", "l", "ml", "bbl"):
         return Meant("an amount is in grams: multiply this volume by its density")
@@ -158,26 +184,33 @@ def day_meant(text: str) -> Meant:
     if timed:
         inner = timed.group(1)
         found = inner if re.fullmatch(r"[0-9]{4}-[0-9]{2}-[0-9]{2}", inner) else ""
-        return _write(f"{found}, without the time") if found else day_meant(inner)
+        return _write("write {text}, without the time", found) if found else day_meant(inner)
     parts = re.fullmatch(r"([0-9]{1,4})[-./ ]([0-9]{1,2})[-./ ]([0-9]{1,4})", plain)
     if parts:
         one, two, three = (int(part) for part in parts.groups())
         if len(parts.group(1)) == 4:
             found = _day(one, two, three)
             if found:
-                return _write(found) if found != text else Meant()
+                return _write(_WRITE, found) if found != text else Meant()
             if 1 <= two <= 12:
                 count = calendar.monthrange(one, two)[1] if one else 0
-                said = f"{calendar.month_name[two]} {one} has {count} days"
+                month = Phrase(calendar.month_name[two])
+                form = "{month} {year} has {count} days"
+                said = Sentence(form, month=month, year=one, count=count)
                 return Meant(said) if count else Meant()
-            return _write(_day(one, three, two))
+            return _write(_WRITE, _day(one, three, two))
         year = three + (2000 if len(parts.group(3)) == 2 else 0)
-        either = [day for day in (_day(year, two, one), _day(year, one, two)) if day]
-        return _write(" or ".join(dict.fromkeys(either)))
+        some = [day for day in (_day(year, two, one), _day(year, one, two)) if day]
+        either = list(dict.fromkeys(some))
+        if len(either) > 1:
+            said = Sentence("write {words} or {last}", words=either[0], last=either[1])
+            return Meant(said, True)
+        return _write(_WRITE, "".join(either))
     if re.fullmatch(r"(19|20|21)[0-9]{6}", plain):
         found = _day(int(plain[:4]), int(plain[4:6]), int(plain[6:]))
-        return _write(found)
+        return _write(_WRITE, found)
     if re.fullmatch(r"[1-7][0-9]{4}", plain):
         day = datetime.date(1899, 12, 30) + datetime.timedelta(days=int(plain))
-        return _write(f"{day.isoformat()}, if this is a spreadsheet's number of a day")
+        form = "write {text}, if this is a spreadsheet's number of a day"
+        return _write(form, day.isoformat())
     return Meant()

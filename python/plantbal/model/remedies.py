@@ -25,7 +25,7 @@ from plantbal.model.forms import (
 from plantbal.model.meant import day_meant, number_meant
 from plantbal.model.plant import ENV, most_streams
 from plantbal.schema import schema
-from plantbal.sentence import Day, Sentence
+from plantbal.sentence import Day, Sentence, phrase
 
 if TYPE_CHECKING:
     from plantbal.model.state import State
@@ -53,7 +53,6 @@ _ANOTHER = "begin another session, with the plant's rows again"
 _CHOOSE = "choose another name, or leave this row out"
 _ONE_OF_TWO = "leave one of the two out"
 _CORRECT_DATE = "correct the date, or leave the row out"
-_OF_VERSION_2 = "are of sessions of version 2: write version,2 as the first row"
 # What to write for a date of service that isn't known.
 _NO_END = {
     "since": f"write {FIRST_DAY} if it was always in service",
@@ -72,13 +71,15 @@ _OTHER_STREAM = {
 }
 # What to do, by the reason, if the session's rows don't matter. The words are as in `words`.
 _DO = {
-    Reason.KIND_OF_VERSION_2: f"boundaries {_OF_VERSION_2}",
+    Reason.KIND_OF_VERSION_2: "boundaries are of sessions of version 2: write version,2 as the first "
+    "row",
     Reason.NOT_VERSION_2: "write version,2 as the first row",
     Reason.VERSION_AFTER_ROWS: "write it as the first row",
     Reason.VERSION_AGAIN: "leave it out",
     Reason.CORE_ALONE: "the core is right; report this row as a fault of plantbal",
     Reason.FIELD_COUNT: "write {patterns}",
-    Reason.SERVICE_OF_VERSION_2: f"dates of service {_OF_VERSION_2}",
+    Reason.SERVICE_OF_VERSION_2: "dates of service are of sessions of version 2: write version,2 as "
+    "the first row",
     Reason.FACT_STRUCK: "book it anew",
     Reason.STREAM_AND_COMPONENT_SWAPPED: "exchange the two fields",
     Reason.PERIOD_AND_COMPONENT_SWAPPED: "exchange the two fields",
@@ -230,7 +231,7 @@ def _is_beyond(text: str) -> bool:
 
 def _with(form: str, meant: str) -> str:
     """Return what a field has to be, and what was probably meant by it."""
-    return Sentence("{form}; {meant}", form=form, meant=meant) if meant else form
+    return Sentence("{form}; {meant}", form=phrase(form), meant=phrase(meant)) if meant else form
 
 
 def _form_of_date(refused: Refused) -> Remedy:

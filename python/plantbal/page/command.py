@@ -13,7 +13,7 @@ from typing import TYPE_CHECKING
 from plantbal import limits
 from plantbal.audit.believed import require_believed
 from plantbal.audit.linked import named_book, was_in
-from plantbal.commands.options import add_timeout
+from plantbal.commands.options import AS_REPORTED, add_rounds, add_timeout
 from plantbal.faults import Fault, InputFault, Place, WordsFault
 from plantbal.files import write_text
 from plantbal.forms import read_session, session_to_run
@@ -273,8 +273,7 @@ def add_arguments(parser: argparse.ArgumentParser) -> None:
     parser.add_argument("--plant", metavar="TEXT", default="", help="what the plant is called")
     parser.add_argument("--session", metavar="SESSION", help="the session of the output")
     parser.add_argument("--run", action="store_true", dest="runs", help="run the file, a session")
-    rounds = "with --run: take out at most N suspects"
-    parser.add_argument("--eliminate", metavar="N", type=int, default=0, help=rounds)
+    add_rounds(parser, default=AS_REPORTED, condition="with --run: ")
     parser.add_argument("--program", metavar="PATH", help="the program, with --run")
     book = "the book that the session is from: the page has its account, the head of its chain, "
     book += "and the reasons with which its periods were closed"
@@ -290,8 +289,8 @@ def add_arguments(parser: argparse.ArgumentParser) -> None:
 def _source(options: argparse.Namespace) -> tuple[Source, Output | None, Path | None]:
     """Return what the page is made of, the output if it was run, and the program."""
     if not options.runs:
-        if options.eliminate or options.program:
-            word = "--eliminate" if options.eliminate else "--program"
+        if options.eliminate is not None or options.program:
+            word = "--eliminate" if options.eliminate is not None else "--program"
             raise WordsFault(
                 f"{word} works only with --run",
                 remedy="use --run too, and name the session as the file",
@@ -313,13 +312,22 @@ def _source(options: argparse.Namespace) -> tuple[Source, Output | None, Path | 
     program = find_program(options.program)
     output = run_program(
         session[1],
-        eliminate=options.eliminate,
+        eliminate=_rounds(options, session[1]),
         program=program,
         timeout=options.timeout,
         judged=True,
     )
     source = Source(output.rows, f"the output of {session[0]}", session, is_run=True)
     return source, output, program
+
+
+def _rounds(options: argparse.Namespace, session: bytes) -> int:
+    """Return how many suspects are taken out: of a book's session as many as of its reports."""
+    if options.eliminate is not None or options.book is None:
+        return options.eliminate or 0
+    from plantbal.book.rounds import rounds_asked
+
+    return rounds_asked(options.book, session) if was_in(options.book, session) else 0
 
 
 def _is_of_book(folder: str | None, source: Source, added: FromBook) -> bool:

@@ -10,10 +10,10 @@ from collections.abc import Iterable, Mapping, Sequence
 from dataclasses import dataclass, field, replace
 from typing import TYPE_CHECKING
 
-from plantbal.gates import Gate, Stop, remedy_of_stop, said_of_stop, stops_of
+from plantbal.gates import Gate, Stop, about, remedy_of_stop, said_of_stop, stops_of
 from plantbal.model.ledger import Ledger
 from plantbal.report.blocks import Block
-from plantbal.sentence import Day, Sentence
+from plantbal.sentence import Day, Sentence, phrase
 
 if TYPE_CHECKING:
     from plantbal.accounts.sheet import SalesUnit
@@ -135,6 +135,13 @@ def _of_period(stops: Iterable[Stop], period: str, told: ClosingNotes) -> Period
     shown = [
         ShownGate(stop.gate, said_of_stop(stop), remedy_of_stop(stop), reasons.get(stop.gate, ""))
         for stop in kept
+    ]
+    now = {stop.gate for stop in kept}
+    # What was so at the close, and isn't any more: its reason stays.
+    shown += [
+        ShownGate(gate, Sentence("at the close: {said}", said=phrase(about(gate))), "", reason)
+        for gate, reason in reasons.items()
+        if gate not in now
     ]
     who, when = (close.who, close.when) if close is not None and reasons else ("", "")
     return PeriodGates(shown, kept, quiet, who, when)

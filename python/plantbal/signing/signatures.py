@@ -17,6 +17,7 @@ from pathlib import Path
 
 from plantbal.faults import Fault, InputFault, Place, read_bytes
 from plantbal.limits import SIGNATURE_BYTES
+from plantbal.sentence import Phrase, Sentence
 from plantbal.signing.signers import Scheme, Signer, fingerprint, signers_text
 from plantbal.signing.tools import call_tool, said_last
 
@@ -81,11 +82,15 @@ class Signed:
 
     def said(self) -> str:
         """Return in words who signed and with which key, or why it isn't believed."""
-        key = f" (key {self.key})" if self.key else ""
         if self.doubt is not None or self.signer is None:
-            whose = f", {self.signer.name}'s" if self.signer is not None else ""
-            return f"{_SAID[self.doubt or Doubt.UNKNOWN]}{key}{whose}"
-        return f"signed by {self.name} with the key {self.key}, {self.signer.since()}"
+            why: str = Phrase(_SAID[self.doubt or Doubt.UNKNOWN])
+            if self.key:
+                why = Sentence("{why} (key {key})", why=why, key=self.key)
+            if self.signer is not None:
+                why = Sentence("{why}, {name}'s", why=why, name=self.signer.name)
+            return why
+        form = "signed by {name} with the key {key}, {since}"
+        return Sentence(form, name=self.name, key=self.key, since=self.signer.since())
 
 
 @dataclass(frozen=True)
@@ -150,8 +155,9 @@ def sign(data: bytes, key: str | Path, use: str) -> str:
             done = call_tool("openssh-client", words, asks=True)
         if done.returncode == 0 and made.is_file():
             return made.read_text("ascii")
+    form = "nothing is signed with {source}: {said}"
     raise Fault(
-        f"nothing is signed with {source}: {said_last(done)}",
+        Sentence(form, source=str(source), said=said_last(done)),
         text=source,
         remedy="name your private key, or the public one if ssh-agent has the private key",
     )

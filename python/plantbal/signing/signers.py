@@ -18,6 +18,7 @@ from dataclasses import dataclass
 from enum import StrEnum
 
 from plantbal.faults import InputFault, Place
+from plantbal.sentence import Sentence
 
 MINISIGN = "minisign"
 _NAME = re.compile(r"[A-Za-z0-9][A-Za-z0-9@._+-]{0,99}")
@@ -79,8 +80,13 @@ class Signer:
     def since(self) -> str:
         """Return in words since when the key may be used, and up to when."""
         after, before = signers_time(self.after), signers_time(self.before)
-        words = f"allowed since {after:%Y-%m-%d}" if after else "allowed without a first day"
-        return f"{words}, up to {before:%Y-%m-%d}" if before else words
+        if after is None and before is None:
+            return Sentence("allowed without a first day")
+        if after is None or before is None:
+            form = "allowed since {first}" if after else "allowed without a first day, up to {last}"
+        else:
+            form = "allowed since {first}, up to {last}"
+        return Sentence(form, first=after and after.date(), last=before and before.date())
 
 
 def fingerprint(scheme: Scheme, key: bytes) -> str:
@@ -126,7 +132,8 @@ def read_signers(file: str, text: str) -> list[Signer]:
     owners: dict[str, str] = {}
     for signer in found:
         if owners.setdefault(signer.key, signer.name) != signer.name:
-            what = f"{owners[signer.key]} and {signer.name} have the same key"
+            form = "{name} and {other} have the same key"
+            what = Sentence(form, name=owners[signer.key], other=signer.name)
             place = Place(file=file, line=signer.line)
             raise InputFault(what, place=place, remedy="a key is one person's: give each their own")
     return found

@@ -18,6 +18,7 @@ from pathlib import Path
 
 from plantbal.faults import Fault
 from plantbal.limits import STAMP_BYTES
+from plantbal.sentence import Sentence, phrase
 from plantbal.signing.tools import call_tool, said_last
 
 _SECONDS = 30.0
@@ -45,8 +46,9 @@ class Stamped:
     def said(self) -> str:
         """Return it in words."""
         if self.when is None:
-            return f"its time stamp isn't believed: {self.why}"
-        return f"it was there at {self.when:%Y-%m-%dT%H:%M:%SZ}, by its time stamp"
+            return Sentence("its time stamp isn't believed: {why}", why=phrase(self.why))
+        when = f"{self.when:%Y-%m-%dT%H:%M:%SZ}"
+        return Sentence("it was there at {when}, by its time stamp", when=when)
 
 
 def stamp(data: bytes, server: str) -> str:
@@ -65,30 +67,34 @@ def stamp(data: bytes, server: str) -> str:
         If the server can't be reached, or gives none.
     """
     if not server.startswith(("http://", "https://")):
-        raise Fault(
-            f"{server} isn't a time stamp server", text=server, remedy="write its https:// address"
-        )
+        what = Sentence("{server} isn't a time stamp server", server=server)
+        raise Fault(what, text=server, remedy="write its https:// address")
     with tempfile.TemporaryDirectory() as name:
         path = Path(name) / "data"
         path.write_bytes(data)
         asked = call_tool("openssl", ["openssl", "ts", "-query", "-data", path, "-sha256", "-cert"])
         if asked.returncode != 0:
-            raise Fault(f"openssl couldn't make the request: {said_last(asked)}")
+            form = "openssl couldn't make the request: {said}"
+            raise Fault(Sentence(form, said=said_last(asked)))
     head = {"Content-Type": "application/timestamp-query"}
     request = urllib.request.Request(server, data=asked.stdout, headers=head)
     try:
         with urllib.request.urlopen(request, timeout=_SECONDS) as answer:
             token: bytes = answer.read(STAMP_BYTES + 1)
     except (OSError, ValueError) as error:
-        what = f"the time stamp server {server} doesn't answer: {error}"
+        form = "the time stamp server {server} doesn't answer: {error}"
+        what = Sentence(form, server=server, error=str(error))
         raise Fault(
             what, text=server, remedy="try again later, or leave the time stamp out"
         ) from error
     if len(token) > STAMP_BYTES:
-        raise Fault(f"the time stamp server {server} sent more than a time stamp", text=server)
+        form = "the time stamp server {server} sent more than a time stamp"
+        raise Fault(Sentence(form, server=server), text=server)
     text = base64.encodebytes(token).decode("ascii")
     if _time_in(token) is None:
-        raise Fault(f"the time stamp server {server} gives none", text=server)
+        raise Fault(
+            Sentence("the time stamp server {server} gives none", server=server), text=server
+        )
     return text
 
 

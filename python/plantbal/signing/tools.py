@@ -9,6 +9,7 @@ from collections.abc import Sequence
 from pathlib import Path
 
 from plantbal.faults import ProgramFault, ToolMissing
+from plantbal.sentence import Sentence
 
 _SECONDS = 60.0
 
@@ -49,7 +50,8 @@ def call_tool(
             command, input=data, capture_output=True, env=settings, timeout=_SECONDS, check=False
         )
     except subprocess.TimeoutExpired as error:
-        what = f"{words[0]} didn't finish within {_SECONDS:g} s"
+        form = "{program} didn't finish within {seconds:g} s"
+        what = Sentence(form, program=words[0], seconds=_SECONDS)
         raise ProgramFault(what, status=-1, name="Timeout") from error
 
 

@@ -25,6 +25,7 @@ class SheetCause(Causes):
     NO_DENSITY_OF_VOLUME = "{text} {unit} have no density"
     NOT_A_DENSITY = "{text} kg/m3 isn't a density"
     LEVEL_WITHOUT_UNIT = "the level {text} has decimals and no unit: {readings}?"
+    LEVEL_LIKE_METRES = "the level {text} has decimals, and its unit is mm: {text} m?"
     LEVELS_WITHOUT_UNIT = "the level {text} has decimals, and its column has no unit"
     GRADE_WITHOUT_UNIT = "the grade {text} has no unit"
     NOT_AN_ERROR = "{text!r} isn't an error with its unit"

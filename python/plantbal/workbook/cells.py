@@ -279,18 +279,29 @@ class Reader:
             Its unit.
         top : int, optional
             The greatest level of the tank's table: with it a number with decimals that may be in
-            metres or centimetres isn't taken for millimetres.
+            metres or centimetres isn't taken for millimetres, nor one that may be in metres in a
+            column of millimetres.
         """
         number, own = self.split(cell, LENGTHS, head)
-        own = own or self.unit(unit, LENGTHS, "")
+        beside = "" if own else self.unit(unit, LENGTHS, "")
         if top is not None and not own and number != number.to_integral_value():
-            others = [each for each in ("m", "cm") if 0 < number * int(LENGTHS[each]) <= top]
+            maybe = {"": ("m", "cm"), "mm": ("m",)}.get(beside, ())
+            others = [each for each in maybe if 0 < number * int(LENGTHS[each]) <= top]
             if others:
                 said = " or ".join(f"{cell.text} {each}" for each in others)
                 what = SheetCause.LEVEL_WITHOUT_UNIT(text=cell.text, readings=said)
-                remedy = CellRemedy.LEVEL_IN(text=cell.text, unit=others[0], mm=round(number))
+                if beside:
+                    what = SheetCause.LEVEL_LIKE_METRES(text=cell.text)
+                mm = self._written(cell, number * int(LENGTHS[others[0]]))
+                remedy = CellRemedy.LEVEL_IN(unit=others[0], mm=mm, whole=round(number))
                 raise self.fault(cell, what, remedy, head)
-        return self.whole(cell, Fraction(number) * LENGTHS[own or "mm"])
+        return self.whole(cell, Fraction(number) * LENGTHS[own or beside or "mm"])
+
+    def _written(self, cell: Cell, number: Decimal) -> str:
+        """Return a figure with all its digits, as the cell's workbook writes them."""
+        text = f"{number:f}"
+        text = text.rstrip("0").rstrip(".") if "." in text else text
+        return text.replace(".", self.marks_of(cell)[0])
 
     def grade(self, cell: Cell, unit: Cell | None = None, head: str = "grade") -> Fraction:
         """Return a grade in parts per million; it needs a unit after it or in a cell of its own."""

@@ -24,7 +24,7 @@ class CellRemedy(Causes):
     DRY_TONNES = "wet tonnes have water in them: write the dry ones, in t or dmt"
     WRITE_DENSITY = "write a density, such as 862 (kg/m3), in the row or in that of its stream"
     DENSITY_WITH_UNIT = "write kg/m3 without its unit, others with it: 862, 0.862 t/m3, 862000 g/m3"
-    LEVEL_IN = "write {text} {unit}, or {mm} mm if it is that; or the unit into a column unit"
+    LEVEL_IN = "write {mm} mm if it is in {unit}, or {whole} mm if it isn't"
     WRITE_DAY = "write it as 2024-06-30"
     DAY_ALONE = "a figure is a day's: add the hours of a day up, and write the day alone"
     MONTH_FIRST = "--locale {locale} has the month first: use --locale en_GB"

@@ -14,7 +14,14 @@ from plantbal.faults import Fault
 from plantbal.gates import Gate
 from plantbal_office.deeds.once import once
 from plantbal_office.deeds.signing import SUBMISSION, signed_text
-from plantbal_office.shelf import book_contents, book_of, given_by, plain_book, run_settings
+from plantbal_office.shelf import (
+    book_contents,
+    book_of,
+    given_by,
+    plain_book,
+    rounds_given,
+    run_settings,
+)
 
 _REASON = 80  # characters
 _ROWS = 40  # of what waits
@@ -24,15 +31,16 @@ def submit_page(request: HttpRequest, period: str) -> HttpResponse:
     """Submit the close of a month; or give the text that this signs, as a file."""
     anyway = {gate: request.POST.get(f"why-{gate.value}", "").strip() for gate in Gate}
     given = {gate: why[: _REASON + 1] for gate, why in anyway.items() if why}
+    settings = run_settings(rounds_given(request.POST))
     if request.POST.get("answer") == "text":
         book = book_of(request, expected=True)
-        text = book.close_to_sign(period, anyway=given, settings=run_settings())
+        text = book.close_to_sign(period, anyway=given, settings=settings)
         return signed_text(text, SUBMISSION)
     record, signature = _signed(request)
 
     def act() -> str:
         done = book_of(request, expected=True).submit(
-            period, anyway=given, settings=run_settings(), record=record, signature=signature
+            period, anyway=given, settings=settings, record=record, signature=signature
         )
         what = _("{name} is submitted, and waits for an approval by somebody else.")
         messages.success(request, what.format(name=done.period))

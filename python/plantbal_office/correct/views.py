@@ -18,21 +18,20 @@ from plantbal.book.expected import BookVersion
 from plantbal.book.ledger import BookFact
 from plantbal.book.library import Book
 from plantbal.book.looking import Contents, FactLine
-from plantbal.book.results import Closed, Edited, Estimated
-from plantbal.commands.book.estimating import proposal_said as proposal_said
+from plantbal.book.results import Closed, Edited
 from plantbal.faults import Fault
 from plantbal.gates import Gate, Stop, about, remedy_of_stop, said_of_stop
 from plantbal.lint.findings import RULES
+from plantbal.report.output import Output
 from plantbal_office.deeds.once import once
-from plantbal_office.effects import TRIED, Said, Trial, kept_output, touched_months, tried
+from plantbal_office.effects import kept_output, touched_months, tried
 from plantbal_office.effects import report_said as report_said
 from plantbal_office.enter.typed import typing_locale
 from plantbal_office.look.views import month_in_address
 from plantbal_office.plants.standing import stand_of
 from plantbal_office.sentences import fact_said, said
-from plantbal_office.shelf import book_contents, book_of, plain_book, run_settings
+from plantbal_office.shelf import book_contents, book_of, plain_book, rounds_given, run_settings
 
-MOST_ROUNDS = 6
 REASON = 80  # letters, as a row of a session bears
 
 
@@ -178,62 +177,16 @@ def undo_page(request: HttpRequest, year: str, identity: str) -> HttpResponse:
     return once(request, deed)
 
 
-# ---- estimates
-
-
-def estimate_page(request: HttpRequest, period: str) -> HttpResponse:
-    """Propose estimates for days without a reading, and book them."""
-    month = month_in_address(request, period)
-    words = request.POST if request.method == "POST" else request.GET
-    stream = words.get("stream", "")[:40]
-    if request.method == "POST":
-        form = ReasonForm(request.POST)
-
-        def deed() -> str:
-            if not form.is_valid():
-                raise Fault(_("give a reason of at most 80 characters"))
-            why = form.cleaned_data["why"].strip()
-            done = book_of(request, expected=True).estimate(period, stream, take=True, why=why)
-            for each in done.proposals:
-                if each.is_needed:
-                    messages.success(request, _("Booked: {what}").format(what=proposal_said(each)))
-            return reverse("look:statement", args=[request.plant.slug, period])
-
-        return once(request, deed)
-    # before anything is looked at: what is decided then is on no newer book
-    version = book_contents(request.plant).version
-    found = plain_book(request.plant).estimate(period, stream)
-    trial: Trial | None = None
-    if any(each.is_needed for each in found.proposals):
-        trial = tried(request.plant, lambda book: _taken(book, period, stream), lambda *_: [period])
-    answer = {
-        "month": month,
-        "found": found,
-        "stream": stream,
-        "lines": [(each, proposal_said(each)) for each in found.proposals],
-        "trial": trial,
-        "version": version,
-        "form": ReasonForm(),
-        "section": "statement",
-    }
-    return render(request, "correct/estimate.html", answer)
-
-
-def _taken(book: Book, period: str, stream: str) -> Estimated:
-    return book.estimate(period, stream, take=True, why=TRIED)
-
-
 # ---- reports and the close
 
 
 def report(request: HttpRequest, period: str) -> HttpResponse:
     """Make the report of a month, and show its statement."""
     month_in_address(request, period)
-    rounds = request.POST.get("eliminate", "0")
-    eliminate = int(rounds) if rounds in map(str, range(MOST_ROUNDS + 1)) else 0
+    settings = run_settings(rounds_given(request.POST))
 
     def deed() -> str:
-        made = book_of(request).report(period, settings=run_settings(eliminate))
+        made = book_of(request).report(period, settings=settings)
         for each in made:
             if not each.is_new:
                 messages.info(
@@ -255,13 +208,17 @@ def close_page(request: HttpRequest, period: str) -> HttpResponse:
         words = {"month": month, "section": "statement", "stand": stand_of(request.plant, month)}
         return render(request, "correct/closed.html", words)
     version, rules = book_contents(request.plant).version, plain_book(request.plant).rules()
-    whole, stops = _asked(request, period)
+    rounds = rounds_given(request.GET)
+    report = plain_book(request.plant).closing(period, settings=run_settings(rounds))
+    assert report is not None, "a closed month isn't asked"
+    stops = list(report.stops)
     gates = list(dict.fromkeys(stop.gate for stop in stops))
-    kept = kept_output(request.plant, book_contents(request.plant), period)
     words = {
-        "left_out": kept is not None and any(row["row"] == "taken" for row in kept.rows),
+        "rounds": rounds,
+        "left_out": _left_out(report.output),
+        "left_before": _left_out(kept_output(request.plant, book_contents(request.plant), period)),
         "month": month,
-        "said": whole,
+        "said": report_said(report.output, stops),
         "gates": [(gate, said(about(gate)), _of(gate, stops)) for gate in gates],
         "version": version,
         "section": "statement",
@@ -280,19 +237,17 @@ def _of(gate: Gate, stops: list[Stop]) -> list[tuple[str, str]]:
     ]
 
 
-def _asked(request: HttpRequest, period: str) -> tuple[Said, list[Stop]]:
-    """Return what the report says with which a month would be closed, and what it stops at."""
-    report = plain_book(request.plant).closing(period, settings=run_settings())
-    assert report is not None, "a closed month isn't asked"
-    stops = list(report.stops)
-    return report_said(report.output, stops), stops
+def _left_out(output: Output | None) -> list[str]:
+    """Return the suspects that a report leaves out."""
+    reports = output.reports if output is not None else []
+    return reports[-1].taken if reports else []
 
 
 def _close(request: HttpRequest, period: str, given: dict[Gate, str]) -> str:
     """Close a month, and return where its statement is."""
     try:
         done: Closed = book_of(request, expected=True).close(
-            period, anyway=given, settings=run_settings()
+            period, anyway=given, settings=run_settings(rounds_given(request.POST))
         )
     except NotClosed as stopped:
         gates = ", ".join(gate.value for gate in stopped.unanswered)

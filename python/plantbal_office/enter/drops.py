@@ -12,6 +12,7 @@ from collections.abc import Iterator, Sequence
 from contextlib import contextmanager
 from datetime import timedelta
 from pathlib import Path, PurePosixPath
+from uuid import UUID
 
 from django.conf import settings
 from django.core.files.uploadedfile import UploadedFile
@@ -215,10 +216,16 @@ def typed_reading(book: Book, locale: str) -> ReadingOptions:
     return ReadingOptions(locale, mapping.missing, (), mapping.limits)
 
 
-def keep_drop(request: HttpRequest, name: str, files: Sequence[UploadedFile], locale: str) -> Drop:
+def keep_drop(
+    request: HttpRequest,
+    name: str,
+    files: Sequence[UploadedFile],
+    locale: str,
+    batch: UUID | None = None,
+) -> Drop:
     """Keep a workbook until it is booked; that of a new plant until its book is begun."""
     plant = getattr(request, "plant", None)
-    drop = Drop(person=request.user, plant=plant, name=name, locale=locale)
+    drop = Drop(person=request.user, plant=plant, name=name, locale=locale, batch=batch)
     try:
         write_workbook_files(folder_of(drop), name, files)
     except BaseException:

@@ -3,6 +3,7 @@
 from __future__ import annotations
 
 import datetime
+from collections.abc import Mapping, Sequence
 from dataclasses import dataclass
 from decimal import Decimal
 
@@ -10,7 +11,6 @@ from django.core.files.base import ContentFile
 from django.http import Http404, HttpRequest, HttpResponse, JsonResponse
 from django.shortcuts import render
 from django.urls import reverse
-
 
 from plantbal.amounts import tonnes_of
 from plantbal.book.ledger import BookFact, number_with_commas
@@ -72,18 +72,7 @@ def grid(request: HttpRequest, period: str, kind: str) -> HttpResponse:
 
         def act() -> str:
             rows, cleared = parted(kind, cells_of(request.POST.get("cells", "")))
-            drop = Drop(
-                person=request.user,
-                plant=request.plant,
-                name=f"typed_{period}_{kind}",
-                locale=typing_locale(),
-                is_typed=True,
-                cleared=cleared,
-            )
-            if rows:
-                write_workbook_files(folder_of(drop), drop.name, [file_of(kind, rows)])
-            drop.save(force_insert=True)
-            return reverse("enter:seen", args=[request.plant.slug, drop.pk])
+            return typed_drop(request, period, kind, rows, cleared)
 
         try:
             return once(request, act)
@@ -113,6 +102,28 @@ def grid(request: HttpRequest, period: str, kind: str) -> HttpResponse:
     if core is not None:
         answer["Content-Security-Policy"] = POLICY_WITH_CORE
     return answer
+
+
+def typed_drop(
+    request: HttpRequest,
+    period: str,
+    kind: str,
+    rows: Sequence[Mapping[str, str]],
+    cleared: list[list[str]],
+) -> str:
+    """Keep what was typed of a month as a workbook, and return where it is seen what it would do."""
+    drop = Drop(
+        person=request.user,
+        plant=request.plant,
+        name=f"typed_{period}_{kind}",
+        locale=typing_locale(),
+        is_typed=True,
+        cleared=cleared,
+    )
+    if rows:
+        write_workbook_files(folder_of(drop), drop.name, [file_of(kind, rows)])
+    drop.save(force_insert=True)
+    return reverse("enter:seen", args=[request.plant.slug, drop.pk])
 
 
 def tests_page(request: HttpRequest) -> HttpResponse:

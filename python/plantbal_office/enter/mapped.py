@@ -221,10 +221,11 @@ def _merged(
         there = sheet_mapping(base, sheet)
         if there is not None and kinds.get(sheet.name, there.kind) == there.kind:
             taken.add(there.name)
+            of_file = {
+                path: evidence.pop(path) for path in [*evidence] if path[:2] == ("sheet", at)
+            }
+            evidence |= _why_kept(at, there, own, of_file, said)
             own = there
-            for path in [each for each in evidence if each[:2] == ("sheet", at)]:
-                del evidence[path]
-            evidence["sheet", at, "kind"] = said
         made.append(own)
     others = [each for each in base.sheets if each.name not in taken]
     names, words = {**found.mapping.names, **base.names}, {**found.mapping.words, **base.words}
@@ -243,6 +244,26 @@ def _merged(
         sheets=(*made, *others),
     )
     return MappingProposal(mapping, evidence, found.known)
+
+
+def _why_kept(
+    at: int, kept: SheetMapping, found: SheetMapping, of_file: Mapping[Path_, str], said: str
+) -> dict[Path_, str]:
+    """Return what speaks for a sheet as a mapping has it: of a unit, whether the file says it too."""
+    why: dict[Path_, str] = {("sheet", at, "kind"): said}
+    silent = _("{said}; nothing in the file does").format(said=said)
+    for key in ("month", "year", "hours", "locale"):
+        if getattr(kept, key):
+            why["sheet", at, key] = said
+    for table in ("columns", "given", "counters"):
+        why |= {("sheet", at, table, head): said for head in getattr(kept, table)}
+    for head, unit in kept.units.items():
+        path: Path_ = ("sheet", at, "units", head)
+        why[path] = of_file.get(path, silent) if found.units.get(head) == unit else silent
+    if kept.unit:
+        path = ("sheet", at, "unit")
+        why[path] = of_file.get(path, silent) if found.unit == kept.unit else silent
+    return why
 
 
 # ---- as a person sees it
@@ -354,6 +375,11 @@ def _text(posted: Mapping[str, str], name: str, kept: str) -> str:
     return posted.get(name, kept).strip()[:LONGEST]
 
 
+def _answer(posted: Mapping[str, str], name: str, asked: str) -> str:
+    """Return a text of a form; a question whose mark is cleared stays one."""
+    return _text(posted, name, asked) or (OPEN if asked == OPEN else "")
+
+
 def _pairs_by(what: str, kept: Mapping[str, str], posted: Mapping[str, str]) -> dict[str, str]:
     """Return names or words as a form has them; one that is emptied is as the workbook has it."""
     found = {
@@ -393,7 +419,7 @@ def _sheet_by(form: MappedSheet, posted: Mapping[str, str]) -> SheetMapping:
     columns, units = dict(own.columns), dict(own.units)
     for each in form.columns:
         to = posted.get(f"col-{at}-{each.number}", each.to)
-        unit = posted.get(f"unit-{at}-{each.number}", each.unit).strip()[:LONGEST]
+        unit = _answer(posted, f"unit-{at}-{each.number}", each.unit)
         columns.pop(each.head, None)
         if to != AS_CALLED:
             columns[each.head] = "" if to == NOT_READ else to[:LONGEST]
@@ -408,7 +434,7 @@ def _sheet_by(form: MappedSheet, posted: Mapping[str, str]) -> SheetMapping:
         name=_text(posted, f"sheet-{at}", own.name) or own.name,
         locale=_text(posted, f"locale-{at}", own.locale),
         month=_text(posted, f"month-{at}", own.month),
-        unit=_text(posted, f"all-{at}", own.unit),
+        unit=_answer(posted, f"all-{at}", own.unit),
         year=_text(posted, f"year-{at}", own.year),
         hours=_text(posted, f"hours-{at}", own.hours),
         twice=_text(posted, f"twice-{at}", own.twice),

@@ -13,7 +13,7 @@ from django.urls import reverse
 from plantbal.book.looking import Contents
 from plantbal.faults import Fault
 from plantbal.workbook.mapping.form import OPEN, WorkbookMapping
-from plantbal.workbook.mapping.known import KnownPlant
+from plantbal.workbook.mapping.known import KnownPlant, meter_units
 from plantbal.workbook.mapping.proposing import MappingProposal
 from plantbal.workbook.sheetkinds import SHEETS
 from plantbal.workbook.units import UNITS
@@ -118,6 +118,9 @@ def known_of(contents: Contents) -> KnownPlant:
         tuple(meter.tag for meter in meters if meter is not None and meter.tag),
         tuple(each.name for each in flows),
         tuple(each.name for each in vessels),
+        meter_units(
+            (each.name, each.meter.tag, each.meter.unit) for each in flows if each.meter is not None
+        ),
     )
 
 
@@ -127,6 +130,12 @@ def asks_mapping(plant: Plant, drop: Drop) -> bool:
         drop, plain_book(plant).mapping(), known_of(book_contents(plant))
     )
     return KEPT.of(Path(plant.folder), "wanted", (str(drop.pk),), make)
+
+
+def has_mapping(plant: Plant) -> bool:
+    """Say whether the workbooks of a plant are read by a mapping that its book keeps."""
+    make = lambda: plain_book(plant).mapping() is not None  # noqa: E731
+    return KEPT.of(Path(plant.folder), "has mapping", (), make)
 
 
 def mapping_page(request: HttpRequest, drop: str) -> HttpResponse:

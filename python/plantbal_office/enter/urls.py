@@ -2,12 +2,13 @@
 
 from django.urls import path
 
-from plantbal_office.enter import grid, mapping, views
+from plantbal_office.enter import grid, kept, mapping, views
 
 app_name = "enter"
 urlpatterns = [
     path("", views.drop, name="drop"),
     path("template", views.template_page, name="template"),
+    path("mapping", kept.kept_page, name="kept"),
     path("<uuid:drop>", views.seen, name="seen"),
     path("<uuid:drop>/mapping", mapping.mapping_page, name="mapping"),
     path("<uuid:drop>/book", views.book, name="book"),

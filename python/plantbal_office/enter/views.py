@@ -5,12 +5,15 @@ from __future__ import annotations
 import logging
 from collections.abc import Callable
 from pathlib import Path
+from uuid import uuid4
 
 from django import forms
 from django.contrib import messages
 from django.http import HttpRequest, HttpResponse
 from django.shortcuts import get_object_or_404, redirect, render
 from django.urls import reverse
+from django.utils.formats import localize
+from django.utils.timezone import localtime
 from django.utils.translation import gettext as _
 from django.utils.translation import gettext_lazy
 
@@ -33,10 +36,17 @@ from plantbal_office.enter.drops import (
     without_folders,
     workbooks_of,
 )
-from plantbal_office.enter.mapped import drop_reading, mapped_at
-from plantbal_office.enter.mapping import asks_mapping
-from plantbal_office.enter.models import Drop
+from plantbal_office.enter.mapped import drop_reading, mapped_at, unmap
+from plantbal_office.enter.mapping import asks_mapping, has_mapping
+from plantbal_office.enter.models import Drop, DropState
 from plantbal_office.enter.picture import pictures_of
+from plantbal_office.enter.waiting import (
+    keep_booked,
+    next_of,
+    put_state,
+    waiting_drop,
+    waiting_drops,
+)
 from plantbal_office.plants.models import Plant
 from plantbal_office.shelf import KEPT, book_contents, book_of
 
@@ -70,7 +80,8 @@ def drop(request: HttpRequest) -> HttpResponse:
                 raise Fault(
                     _("no workbook was chosen"), remedy=_("choose a file, or drop one here")
                 )
-            made = [keep_drop(request, name, files, locale) for name, files in found]
+            batch = uuid4()
+            made = [keep_drop(request, name, files, locale, batch) for name, files in found]
             Plant.objects.filter(pk=plant.pk).update(locale=locale)
             return reverse("enter:seen", args=[plant.slug, made[0].pk])
 
@@ -78,8 +89,11 @@ def drop(request: HttpRequest) -> HttpResponse:
             return once(request, act)
         except Fault as found:
             fault = found
-    waiting = Drop.objects.filter(plant=plant).select_related("person").order_by("made")
-    words = {"locales": LOCALES, "fault": fault, "waiting": waiting, "section": "enter"}
+    some = waiting_drops(plant)
+    words: dict[str, object] = {"locales": LOCALES, "fault": fault, "section": "enter"}
+    words["waiting"] = [each for each in some if each.is_current]
+    words["put_by"] = [each for each in some if not each.is_current]
+    words["has_mapping"] = has_mapping(plant)
     words["months"] = list(reversed([m for m in book_contents(plant).months if not m.closed]))
     return render(request, "enter/drop.html", words, status=400 if fault else 200)
 
@@ -115,11 +129,20 @@ def seen(request: HttpRequest, drop: str) -> HttpResponse:
     how = form.cleaned_data if form.is_valid() else {}
     version = book_contents(request.plant).version
     is_mapped = mapped_at(found) > 0
+    if found.booked is not None and not is_mapped:
+        when = localize(localtime(found.booked), use_l10n=True)
+        what = _("{name} was booked on {when}: nothing of it waits.")
+        messages.info(request, what.format(name=found.name, when=when))
+        return redirect("enter:drop", request.plant.slug)
     if not found.is_typed and not is_mapped and "plain" not in request.GET:
         if asks_mapping(request.plant, found):
+            put_state(found, DropState.ASKED)
             return redirect("enter:mapping", request.plant.slug, found.pk)
     trial = trial_of(request.plant, found, how)
+    put_state(found, DropState.REJECTED if trial.fault else DropState.READY, trial.fault)
     words = {"drop": found, "version": version, "how": How(initial=how), "section": "enter"}
+    words["waits"] = waiting_drop(found)
+    words["maps"] = not found.is_typed and (is_mapped or has_mapping(request.plant))
     words |= {"strike": bool(how.get("strike")), "anyway": bool(how.get("anyway"))}
     words["is_mapped"] = is_mapped
     if trial.fault is not None:
@@ -179,10 +202,10 @@ def book(request: HttpRequest, drop: str) -> HttpResponse:
             raise
         for line in added_lines(added):
             messages.success(request, without_folders(line))
-        forget(found)
-        rest = Drop.objects.filter(plant=request.plant, person=request.user).order_by("made")
-        if rest.exists():
-            return reverse("enter:seen", args=[request.plant.slug, rest[0].pk])
+        rest = next_of(found)
+        keep_booked(found)
+        if rest is not None:
+            return reverse("enter:seen", args=[request.plant.slug, rest.pk])
         then = months_added(added, book_contents(request.plant))
         anchor = f"#m-{then[-1]}" if then else ""
         return reverse("plants:months", args=[request.plant.slug]) + anchor
@@ -198,7 +221,10 @@ def book(request: HttpRequest, drop: str) -> HttpResponse:
 def put_aside(request: HttpRequest, drop: str) -> HttpResponse:
     """Forget a workbook that isn't to be booked."""
     found = Drop.objects.filter(pk=drop, plant=request.plant).first()
-    if found is not None:
+    if found is not None and found.booked is not None:
+        unmap(found)
+        messages.info(request, _("The mapping stays as it is."))
+    elif found is not None:
         name = found.name
         forget(found)
         messages.info(

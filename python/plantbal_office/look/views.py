@@ -20,9 +20,10 @@ from plantbal_office.look.statement import prepared_of, statement_of, whole_page
 from plantbal_office.notes.models import Note
 from plantbal_office.plants.models import Plant
 from plantbal_office.plants.standing import stand_of
-from plantbal_office.shelf import book_contents, plain_book
+from plantbal_office.shelf import book_contents, last_rounds, plain_book
 
 LINES = 200  # of the journal on a page
+MOST_ROUNDS = 6  # that are offered
 XLSX = "application/vnd.openxmlformats-officedocument.spreadsheetml.sheet"
 
 
@@ -49,6 +50,7 @@ def statement(request: HttpRequest, period: str) -> HttpResponse:
         "before": names[at - 1] if at else "",
         "after": names[at + 1] if at + 1 < len(names) else "",
         "is_old": month.report is ReportState.OLDER,
+        "rounds": _rounds_offered(request.plant, month),
         "earlier": range(1, month.earlier + 1),
         "about": f"month:{period}",
         "notes": Note.objects.filter(plant=request.plant, period=period).select_related("person"),
@@ -56,6 +58,17 @@ def statement(request: HttpRequest, period: str) -> HttpResponse:
     if month.report is not ReportState.MISSING:
         words["shown"] = statement_of(request.plant, period)
     return render(request, "look/statement.html", words)
+
+
+def _rounds_offered(plant: Plant, month: BookMonth) -> list[tuple[int, bool]]:
+    """Return how many suspects a report may leave out, and which the last one was made with.
+
+    That of a closed month leaves out what it did, so nothing is offered.
+    """
+    if month.closed:
+        return []
+    last = last_rounds(plant, month)
+    return [(each, each == last) for each in sorted({*range(MOST_ROUNDS + 1), last})]
 
 
 def notes_on(request: HttpRequest, about: str) -> dict[str, object]:

@@ -65,9 +65,10 @@ class Commands:
         words += ["--strike"] if strike else []
         self._call("add", workbook, "--locale", locale, *words)
 
-    def report(self, period: str, eliminate: int = 0) -> None:
+    def report(self, period: str, eliminate: int | None = None) -> None:
+        words = [] if eliminate is None else ["--eliminate", eliminate]
         # the status is 1 if the report has to be looked at
-        self._call("report", period, "--eliminate", eliminate, allowed=(0, 1))
+        self._call("report", period, *words, allowed=(0, 1))
 
     def amend(self, name: str, day: str, amount: str, why: str) -> None:
         self._call("amend", name, day, amount, "--why", why)
@@ -233,9 +234,10 @@ class Browser:
         self.press("Book it")
         assert "/enter/" not in self.driver.current_url, self.text()
 
-    def report(self, period: str, eliminate: int = 0) -> None:
+    def report(self, period: str, eliminate: int | None = None) -> None:
         self.open(f"look/{period}/")
-        self.fill("eliminate", str(eliminate))
+        if eliminate is not None:
+            self.fill("eliminate", str(eliminate))
         self.press("Make the report")
         assert self.has(".statement"), self.text()
 

@@ -28,12 +28,20 @@ MAKERS = {"Sentence": (0,), "counted": (1, 2), "Phrase": (0,), "phrase": (0,)}
 WHOLE = (
     *(
         "accounts/account",
+        "accounts/reading",
         "diagnosis/candidates",
         "diagnosis/rounds",
         "diagnosis/words",
         "gates/words",
     ),
-    *("lint/values", "model/words", "page/verdict"),
+    *(
+        f"lint/{name}"
+        for name in (
+            *("accounts", "components", "gates", "lacking", "plant", "remedies", "silent"),
+            *("studies", "values"),
+        )
+    ),
+    *("model/meant", "model/remedies", "model/words", "page/verdict"),
     *("workbook/causes", "workbook/remedies", "volumes/causes"),
     *(
         "workbook/acrosshours",
@@ -49,19 +57,47 @@ WHOLE = (
     *("workbook/packed", "workbook/periods", "workbook/plant", "workbook/readings"),
     *("workbook/settings", "workbook/shapeparts", "workbook/shapes", "workbook/tables"),
     *("workbook/tickets", "workbook/wide"),
-    *("book/lock", "book/expected", "book/editing", "book/estimating", "book/naming"),
-    *("book/approval/guard", "book/approval/submitting", "book/approval/writing"),
+    *(
+        f"book/{name}"
+        for name in (
+            *("accounting", "adding", "answers", "beginning", "chain", "changes", "closing"),
+            *("contents", "declaring", "difference", "editing", "estimating", "expected"),
+            *("following", "handing", "journal", "ledger", "lock", "looking", "measures"),
+            *(
+                "meters",
+                "naming",
+                "owners",
+                "pending",
+                "posting",
+                "proposed",
+                "quieting",
+                "reading",
+            ),
+            *("remedies", "reporting", "showing", "store", "verifying", "window", "writing"),
+            "years",
+        )
+    ),
+    *(
+        f"book/approval/{name}"
+        for name in (
+            *("approving", "guard", "identity", "proposal", "record", "ruling", "state"),
+            *("submitting", "writing"),
+        )
+    ),
+    *("signing/signatures", "signing/stamps", "signing/tools"),
     *(
         f"workbook/mapping/{name}"
         for name in (
             *("acrosshours", "applying", "columns", "counting", "dating", "finding", "form"),
-            *("kinds", "profile", "proposing", "why", "written"),
+            *("kinds", "profile", "proposing", "unitsof", "why", "written"),
         )
     ),
 )
+# How files of signatures begin and end.
+_OF_SIGNATURES = ("-----", "untrusted comment")
 _TEMPLATE = re.compile(r'(?<![\w.])_\("((?:[^"\\]|\\.)*)"')
 _DJANGO = re.compile(r'{% translate (?:"([^"]*)"|\'([^\']*)\')')
-_FILLED = re.compile(r"\{\w+[^{}]*\}|%\(\w+\)[sd]")
+_FILLED = re.compile(r"\{[a-z]\w*[^{}]*\}|%\(\w+\)[sd]")
 
 
 def fields(form: str) -> list[str]:
@@ -80,18 +116,39 @@ def of_calls(text: str) -> Iterator[str]:
 
 
 def of_module(node: ast.AST) -> Iterator[str]:
-    """Give the texts of several words in a module, but for those that nobody reads."""
+    """Give the texts of several words in a module, and those that are filled, if somebody reads them."""
     if isinstance(node, ast.Constant) and isinstance(node.value, str):
-        if WORDS.search(node.value) and not OTHER.match(node.value):
+        is_said = WORDS.search(node.value) or _FILLED.search(node.value)
+        if is_said and not OTHER.match(node.value) and not node.value.startswith(_OF_SIGNATURES):
             yield node.value
     is_text = isinstance(node, ast.Expr) and isinstance(node.value, ast.Constant)
     called = node.func if isinstance(node, ast.Call) else None
-    if is_text or (isinstance(called, ast.Attribute) and called.attr in UNREAD):
+    is_unread = isinstance(called, ast.Attribute) and called.attr in UNREAD
+    is_unread |= isinstance(called, ast.Name) and called.id == "ValueError"
+    if is_text or is_unread or isinstance(node, ast.Assert):
         return
     if isinstance(node, ast.JoinedStr):
-        return  # a text that isn't made of a form stays in English
+        return  # `formless` has it
     for inner in ast.iter_child_nodes(node):
         yield from of_module(inner)
+
+
+# Texts that aren't said: what a command writes into a journal, what a report is called, words of a
+# command, a fault of the package.
+_KEPT = ("the digests begin here", "the report of {}", "--anyway", "{} can't be written exactly")
+
+
+def formless(text: str) -> Iterator[str]:
+    """Give the texts of several words that a module's functions fill in where they stand: no catalogue has them."""
+    made = (node for node in ast.walk(ast.parse(text)) if isinstance(node, ast.FunctionDef))
+    for node in (inner for each in made for inner in ast.walk(each)):
+        if isinstance(node, ast.JoinedStr):
+            parts = "".join(
+                str(each.value) if isinstance(each, ast.Constant) else "{}" for each in node.values
+            )
+            is_rows = parts.endswith("\n") or parts.startswith(_KEPT) or " " not in parts
+            if not is_rows and len(re.findall(r"[A-Za-z']{2,}", parts.replace("{}", " "))) > 1:
+                yield parts
 
 
 def of_templates(text: str) -> Iterator[str]:
@@ -113,6 +170,8 @@ def of_tables() -> Iterator[str]:
     yield from map(about, Gate)
     for table in (remedies._DO, remedies._NO_END, remedies._NEVER_LATE, remedies._OTHER_STREAM):
         yield from table.values()
+    for greater, _count, own in (each for some in remedies._SCALES.values() for each in some):
+        yield from (greater, own)
     yield from (words._SAID | words._THINGS).values()
     yield from (words.FORM_OF_TEXT, words.FORM_OF_NOTHING, remedies.NAME_FORM)
     yield from (remedies.NAME_LETTERS, remedies.NAME_LONG, remedies.NAME_SUCH)
@@ -136,4 +195,5 @@ def shown_forms() -> set[str]:
     for path in (HOME / "plantbal_office").rglob("*.html"):
         for one, other in _DJANGO.findall(path.read_text(encoding="utf-8")):
             found.add(one or other)
+    found -= {str(cause.value) for cause in AT_DESK}
     return {form for form in found if re.search(r"[A-Za-z]{2}", _FILLED.sub("", form))}

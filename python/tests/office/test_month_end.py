@@ -8,6 +8,8 @@ from pathlib import Path
 import pytest
 from office.hands import Browser, Commands, Hand, bytes_of, lines_of
 
+from plantbal import read_report
+
 TOP = Path(__file__).resolve().parents[3]
 EXAMPLES = TOP / "examples"
 MILL = EXAMPLES / "month_end"
@@ -34,12 +36,24 @@ def mill(hand: Hand) -> None:
     hand.add(MILL / "june", "de")
     hand.report("2024-06")
     hand.report("2024-06", eliminate=1)
+    hand.report("2024-06")
     hand.add(MILL / "june_mended", "de", "FI-302 read high all June, work order 4711", strike=True)
     hand.report("2024-06")
     hand.close("2024-06", {"missing": "FI-302 is in the shop, work order 4711"})
     hand.next("2024-25", MILL / "plant_2024-25", "de")
     hand.add(MILL / "july", "de")
     hand.report("2024-07")
+
+
+def bad_meter(hand: Hand) -> None:
+    """June as it was looked at: its bad meter is left out of the close, and of what comes late."""
+    hand.begin("2023-24", MILL / "plant", "de")
+    hand.add(MILL / "june", "de")
+    hand.report("2024-06")
+    hand.report("2024-06", eliminate=2)
+    hand.close("2024-06")
+    hand.amend("WIC-101", "2024-06-03", "12001 t", "typed wrong")
+    hand.report("2024-06")
 
 
 def own(hand: Hand) -> None:
@@ -89,7 +103,7 @@ def farm(hand: Hand) -> None:
     hand.post("may1")
 
 
-STORIES: tuple[Callable[[Hand], None], ...] = (mill, own, refinery, terminal, farm)
+STORIES: tuple[Callable[[Hand], None], ...] = (mill, bad_meter, own, refinery, terminal, farm)
 
 
 @pytest.mark.parametrize("story", STORIES, ids=lambda story: story.__name__)
@@ -106,3 +120,6 @@ def test_same_bytes(story: Callable[[Hand], None], desk: Browser, tmp_path: Path
     differ = [each for each in one if one[each] != other[each] and not each.startswith("posted/")]
     assert not differ, "the same bytes in each"
     assert lines_of(desk.book) == lines_of(by_commands.book), "the same lines of the journal"
+    if story is bad_meter:
+        taken = read_report(desk.book / "reports" / "2024-06.csv").reports[-1].taken
+        assert taken == ["TAILS"], "what is left out stays left out"

@@ -4,15 +4,21 @@ from __future__ import annotations
 
 import io
 import re
+from pathlib import Path
 from typing import Any
 
 import pytest
 from babel.messages.catalog import Catalog
 from babel.messages.mofile import read_mo
 from babel.messages.pofile import read_po
-from office.shown_forms import HOME, fields, shown_forms
+from office.shown_forms import HOME, WHOLE, fields, formless, shown_forms
 from office.site_of import TOP, Site
 
+from plantbal.book.naming import cell_of
+from plantbal.causes import CausedFault
+from plantbal.book.remedies import BookRemedy
+from plantbal.lint.remedies import LintRemedy
+from plantbal.workbook.cells import Reader
 from plantbal.workbook.remedies import CellRemedy, OptionRemedy
 from plantbal_office.remedies import AT_DESK
 
@@ -39,6 +45,13 @@ def test_each_form_has_a_translation(language: str) -> None:
         said = known.get(form).string
         said = said if isinstance(said, str) else said[0]
         assert fields(said) == fields(form), f"{language}: {form!r} is filled as {said!r}"
+
+
+@pytest.mark.parametrize("module", WHOLE)
+def test_forms(module: str) -> None:
+    """No module whose sentences a page can show fills names and figures into English ones where they stand."""
+    found = list(formless((HOME / f"plantbal/{module}.py").read_text(encoding="utf-8")))
+    assert found == []
 
 
 @pytest.mark.parametrize("language", ("de", "es"))
@@ -100,7 +113,11 @@ def test_pages(site: Site, language: str) -> None:
 
 @pytest.mark.parametrize(
     ("language", "words"),
-    (("en", "leaves suspects out"), ("de", "lässt Verdächtige aus"), ("es", "deja fuera")),
+    (
+        ("en", "leaves out suspects, as the last one did: TAILS"),
+        ("de", "lässt Verdächtige aus, wie der letzte: TAILS"),
+        ("es", "deja fuera sospechosos, como el anterior: TAILS"),
+    ),
 )
 def test_a_close_after_an_elimination(site: Site, language: str, words: str) -> None:
     """A close takes nobody out: that it isn't the report that was looked at is said beside it."""
@@ -124,12 +141,28 @@ def test_faults(site: Site) -> None:
     assert not ENGLISH.search(said.split("Nichts ist gebucht")[1]), said
 
 
-OPTION = re.compile(r"--[a-z]")
+@pytest.mark.parametrize(("language", "text"), (("en", "6.766"), ("de", "6,766"), ("es", "6,766")))
+def test_level_in_metres(made: Path, language: str, text: str) -> None:
+    """A level in metres is said in millimetres by all its digits, in each language."""
+    from django.utils import translation
+    from plantbal_office.sentences import said
+
+    locale = "en_GB" if language == "en" else language
+    with pytest.raises(CausedFault) as caught:
+        Reader(locale).level(cell_of(text), unit=cell_of("mm"), top=20_000)
+    with translation.override(language):
+        what, remedy = said(caught.value.what), said(caught.value.remedy)
+    assert text in what and "6766 mm" in remedy and "7000" not in remedy
+    assert language == "en" or not ENGLISH.search(what + remedy)
+
+
+OPTION = re.compile(r"--[a-z]|plantbal-desk")
 
 
 def test_no_options() -> None:
-    """What names an option of a command has another form at the desk, and none of these does."""
-    named = {each for each in (*CellRemedy, *OptionRemedy) if OPTION.search(str(each.value))}
+    """What names a command or its option has another form at the desk, and none of these does."""
+    remedies = (*CellRemedy, *OptionRemedy, *LintRemedy, *BookRemedy)
+    named = {each for each in remedies if OPTION.search(str(each.value))}
     assert named <= set(AT_DESK)
     assert not [text for text in AT_DESK.values() if OPTION.search(text)]
 

@@ -31,10 +31,12 @@ from plantbal.book.closing import NotClosed, prepared
 from plantbal.book.forms import is_year_file, report_file
 from plantbal.book.journal import Act, JournalLine, Kept
 from plantbal.book.ledger import YearLedger
+from plantbal.book.remedies import BookRemedy
 from plantbal.book.store import Action, Head, Store
 from plantbal.book.years import Years
 from plantbal.faults import Fault
 from plantbal.program import RunSettings
+from plantbal.sentence import Sentence
 
 
 class Void(StrEnum):
@@ -47,10 +49,10 @@ class Void(StrEnum):
 
 
 _SAID = {
-    Void.FIGURES: "a figure of {} was changed since it was submitted",
-    Void.REPORT: "the program writes another report of {} than was submitted",
-    Void.GATES: "what stops the close of {} isn't what it was",
-    Void.FILES: "{} isn't as it was when this was submitted",
+    Void.FIGURES: "a figure of {name} was changed since it was submitted",
+    Void.REPORT: "the program writes another report of {name} than was submitted",
+    Void.GATES: "what stops the close of {name} isn't what it was",
+    Void.FILES: "{name} isn't as it was when this was submitted",
 }
 
 
@@ -64,10 +66,11 @@ class Voided(Fault):
     """
 
     def __init__(self, waiting: Waiting, void: Void, name: str) -> None:
+        why = Sentence(_SAID[void], name=name)
+        form = "action {number} can't be approved: {why}"
         super().__init__(
-            f"action {waiting.line.number} can't be approved: {_SAID[void].format(name)}",
-            remedy=f"reject it (plantbal-desk book reject --head '{waiting.head}' --why TEXT), and "
-            "submit it anew",
+            Sentence(form, number=waiting.line.number, why=why),
+            remedy=BookRemedy.REJECT_AND_SUBMIT(head=waiting.head).sentence,
         )
         self.void = void
 
@@ -116,7 +119,7 @@ def waiting_of(book: Store, head: str) -> Waiting:
     raise Fault(
         "nothing with this head waits for an approval",
         text=head,
-        remedy=f"these wait: {heads}" if heads else "nothing waits",
+        remedy=Sentence("these wait: {heads}" if heads else "nothing waits", heads=heads),
     )
 
 
@@ -206,20 +209,22 @@ def _check_other(book: Store, years: Years, waiting: Waiting, rules: Rules, mark
     number = waiting.line.number
     if marks & marks_of_doer(book, waiting.line, rules):
         raise SamePerson(
-            f"you have submitted action {number} yourself",
+            Sentence("you have submitted action {number} yourself", number=number),
             remedy="somebody else has to look at it and approve it",
         )
     for line in waiting.approvals:
         if marks & marks_of_signer(book, line, rules):
             remedy = "one more person has to approve it"
-            raise SamePerson(f"you have approved action {number} already", remedy=remedy)
+            what = Sentence("you have approved action {number} already", number=number)
+            raise SamePerson(what, remedy=remedy)
     if waiting.proposal.act != Act.CLOSE:
         return
     ledger = years.of_period(waiting.proposal.of)
     for line, doer in changers(book, ledger, waiting.proposal.of, rules, rules.changed):
         if marks & doer:
+            form = "you have changed a figure of {period} yourself: {action}"
             raise SamePerson(
-                f"you have changed a figure of {waiting.proposal.of} yourself: {line.said()}",
+                Sentence(form, period=waiting.proposal.of, action=line.said()),
                 remedy="somebody who hasn't has to approve it",
             )
 

@@ -15,6 +15,7 @@ from plantbal.book.journal import Act
 from plantbal.book.store import Action, Head, Store
 from plantbal.faults import Fault, InputFault, Place, decoded, read_bytes
 from plantbal.limits import RULES_BYTES
+from plantbal.sentence import Sentence
 from plantbal.signing.signers import Signer, lost_keys, read_signers
 
 
@@ -84,7 +85,9 @@ def _check(book: Store, before: Rules | None, texts: dict[str, str]) -> None:
     signers = read_signers(SIGNERS, texts[SIGNERS]) if SIGNERS in texts else there
     for lost in lost_keys(there, signers):
         raise InputFault(
-            f"the key {lost.fingerprint} of {lost.name} no longer exists",
+            Sentence(
+                "the key {key} of {name} no longer exists", key=lost.fingerprint, name=lost.name
+            ),
             place=Place(file=SIGNERS),
             remedy='leave its line there, with valid-before="20250101": without it nobody could '
             "verify what it has signed",
@@ -105,8 +108,11 @@ def _check_keys(rules: Rules, signers: list[Signer]) -> None:
     able = {each.name for each in signers if each.is_valid(now)}
     for person in rules.people.values():
         if person.may and person.name not in able:
-            remedy = f"give {person.name} a line in {SIGNERS}, or leave out what it may"
-            raise Fault(f"{person.name} has no key that is valid today", remedy=remedy)
+            form = "give {name} a line in {file}, or leave out what it may"
+            remedy = Sentence(form, name=person.name, file=SIGNERS)
+            what = Sentence("{name} has no key that is valid today", name=person.name)
+            raise Fault(what, remedy=remedy)
     if len(able) <= rules.approvers:
-        what = f"{len(able)} people have a key, and {rules.approvers + 1} have to sign"
-        raise Fault(what, remedy=f"name a file of more signers ({SIGNERS})")
+        form = "{able} people have a key, and {needed} have to sign"
+        what = Sentence(form, able=len(able), needed=rules.approvers + 1)
+        raise Fault(what, remedy=Sentence("name a file of more signers ({file})", file=SIGNERS))

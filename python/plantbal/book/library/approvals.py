@@ -69,7 +69,7 @@ class Approvals(Base):
         period : str
             The period.
         settings : RunSettings, optional
-            How it is run.
+            How it is run; without a number of rounds as its last report.
 
         Returns
         -------

@@ -25,10 +25,12 @@ class Reports(Base):
         periods : str
             The periods.
         settings : RunSettings, optional
-            How they are run.
+            How they are run; without a number of rounds each as its last report.
 
         Raises
         ------
+        OtherRounds
+            If a period is closed, and these rounds give another report than those of its last one.
         Fault
             If there is no such period, or none is open.
         """
@@ -50,7 +52,7 @@ class Reports(Base):
         first, last : str
             The first and the last period.
         settings : RunSettings, optional
-            How they are run.
+            How they are run; without a number of rounds as the last report of this window.
 
         Raises
         ------
@@ -75,7 +77,7 @@ class Reports(Base):
         anyway : mapping of Gate to str, optional
             Why it is closed although something has to be looked at first: a reason for each gate.
         settings : RunSettings, optional
-            How it is run.
+            How it is run; without a number of rounds as its last report.
 
         Raises
         ------

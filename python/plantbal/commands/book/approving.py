@@ -13,7 +13,7 @@ from plantbal.book.forms import report_file
 from plantbal.book.library import Book
 from plantbal.book.said import count_said
 from plantbal.commands.book.closing import add_anyway, say_report
-from plantbal.commands.options import add_program, add_run, settings_of
+from plantbal.commands.options import AS_LAST_REPORT, add_program, add_run, settings_of
 from plantbal.faults import Fault
 from plantbal.files import write_text
 from plantbal.signing.signatures import read_signature
@@ -72,7 +72,7 @@ def _rules(options: argparse.Namespace) -> int:
 def _add_submit(parser: argparse.ArgumentParser) -> None:
     parser.add_argument("period", metavar="PERIOD", help="the period that is to be closed")
     add_anyway(parser)
-    add_run(parser)
+    add_run(parser, default=AS_LAST_REPORT)
 
 
 def _submit(options: argparse.Namespace) -> int:

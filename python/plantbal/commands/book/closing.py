@@ -10,7 +10,7 @@ from plantbal.book.closing import NotClosed, unneeded
 from plantbal.book.library import Book
 from plantbal.book.reporting import balances_said, report_state_line, suspects_of
 from plantbal.book.results import Reported
-from plantbal.commands.options import add_run, settings_of
+from plantbal.commands.options import AS_LAST_REPORT, add_run, settings_of
 from plantbal.gates import line_of_stop, unsaid
 from plantbal.statuses import ExitStatus
 
@@ -18,7 +18,7 @@ from plantbal.statuses import ExitStatus
 def _add_close(parser: argparse.ArgumentParser) -> None:
     parser.add_argument("period", metavar="PERIOD", help="the period")
     add_anyway(parser)
-    add_run(parser)
+    add_run(parser, default=AS_LAST_REPORT)
 
 
 def add_anyway(parser: argparse.ArgumentParser) -> None:

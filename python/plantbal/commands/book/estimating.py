@@ -6,12 +6,9 @@ import argparse
 from types import SimpleNamespace
 
 from plantbal.book.library import Book
+from plantbal.book.proposed import proposal_said
 from plantbal.book.said import reopened_said
-from plantbal.diagnosis.proposal import Proposal, ProposalBasis
-from plantbal.diagnosis.words import amount_said
 from plantbal.faults import WordsFault
-from plantbal.gates.words import days_said
-from plantbal.lint.findings import some_of
 from plantbal.statuses import ExitStatus
 
 
@@ -58,35 +55,6 @@ def _estimate(options: argparse.Namespace) -> int:
     elif not found.missing:
         print(f"{period}: no day of {stream or 'a meter'} is without a reading")
     return ExitStatus.GOOD
-
-
-def proposal_said(proposal: Proposal) -> str:
-    """Return a proposal in a line."""
-    count = len(proposal.days)
-    amount = f"{_signed(proposal.grams)} ± {amount_said(proposal.error)}"
-    if count > 1:
-        total = f"{_signed(count * proposal.grams)} ± {amount_said(count * proposal.error)}"
-        amount = f"{amount} each, {total} on {count} days"
-    line = f"{proposal.stream} {days_said(proposal.days)}: {amount}, {_basis_said(proposal)}"
-    if not proposal.is_needed:
-        line += "; the report has this without an estimate, which would count the others twice"
-    return line
-
-
-def _signed(grams: int) -> str:
-    return f"{'-' if grams < 0 else ''}{amount_said(grams)}"
-
-
-def _basis_said(proposal: Proposal) -> str:
-    """Return what a proposal rests on."""
-    beside = f"of {some_of(proposal.names)}" if proposal.names else ""
-    return {
-        ProposalBasis.DAY: f"by the balance of the day, {beside}",
-        ProposalBasis.DAYS: f"by the balance between two dips, {beside}, less its own readings",
-        ProposalBasis.PERIOD: f"by the balance of the period, {beside}, less its own readings",
-        ProposalBasis.OTHERS: f"the mean of its {proposal.readings} other days",
-        ProposalBasis.EARLIER: f"the mean of its {proposal.readings} days before",
-    }[proposal.basis]
 
 
 ESTIMATE = SimpleNamespace(

@@ -16,7 +16,7 @@ from plantbal.book.reporting import (
 from plantbal.book.results import Reported
 from plantbal.book.said import count_said
 from plantbal.book.window import undipped
-from plantbal.commands.options import add_run, settings_of
+from plantbal.commands.options import AS_LAST_REPORT, AS_LAST_WINDOW, add_run, settings_of
 from plantbal.files import write_text
 from plantbal.gates import line_of_stop, unsaid
 from plantbal.statuses import looks
@@ -29,7 +29,7 @@ def _add_report(parser: argparse.ArgumentParser) -> None:
     parser.add_argument(
         "--session", metavar="FILE", help="also write the session that asks for the reports"
     )
-    add_run(parser)
+    add_run(parser, default=AS_LAST_REPORT)
 
 
 def _report(options: argparse.Namespace) -> int:
@@ -74,7 +74,7 @@ def _add_window(parser: argparse.ArgumentParser) -> None:
     parser.add_argument(
         "--session", metavar="FILE", help="also write the session that asks for the window"
     )
-    add_run(parser)
+    add_run(parser, default=AS_LAST_WINDOW)
 
 
 def _window(options: argparse.Namespace) -> int:

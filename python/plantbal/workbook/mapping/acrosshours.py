@@ -22,7 +22,7 @@ from plantbal.workbook.mapping.profile import (
     SheetProfile,
     is_day_number,
     rises,
-    split_unit,
+    unit_of_title,
 )
 from plantbal.workbook.mapping.vocabulary import column_meanings, is_counter, is_remark, is_total
 from plantbal.workbook.units import AMOUNTS, is_rate, unit_of
@@ -168,13 +168,21 @@ class HourColumns:
     def _unit(self) -> str:
         """Return the unit of all figures: that of the row of units, of a title, or of the streams."""
         found = {column.unit for column in self.profile.columns if column.at in self.profile.hours}
-        titles = {split_unit(title)[1] for title in self.profile.titles}
+        titles = {*map(unit_of_title, self.profile.titles)} - {""}
         for units, said in ((found, "the hours say so"), (titles, "a title above says so")):
             fit = [unit for unit in units if unit in AMOUNTS or is_rate(unit)]
             if len(fit) == 1:
                 self.evidence["unit",] = said
                 return fit[0]
         if self.has_units:
+            return ""
+        texts = [text for column in self.others for text in column.names()]
+        texts = [text for text in texts if text in self.known.meters] or [
+            self.known.meter(text) for text in (self.profile.sheet.name, *self.profile.titles)
+        ]
+        booked = self.known.units_of({*filter(None, texts)})
+        if booked:
+            self.evidence["unit",] = why.unit_of_book(booked)
             return ""
         own = [column for column in self.profile.columns if column.at in self.profile.hours]
         numbers = [number for column in own for number in column.decimals]

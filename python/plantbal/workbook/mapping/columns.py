@@ -3,9 +3,7 @@
 from __future__ import annotations
 
 from collections import Counter
-from collections.abc import Collection
 from dataclasses import dataclass, field, replace
-from decimal import Decimal
 
 from plantbal.sentence import Sentence
 from plantbal.workbook.mapping import why
@@ -19,8 +17,8 @@ from plantbal.workbook.mapping.profile import (
     SheetProfile,
     is_running,
     tank_pairs,
-    split_unit,
 )
+from plantbal.workbook.mapping.unitsof import UNITS_OF, unit_by_size, unit_in_titles
 from plantbal.workbook.mapping.vocabulary import (
     Meaning,
     column_meanings,
@@ -34,7 +32,6 @@ from plantbal.workbook.sheetkinds import SHEETS
 from plantbal.workbook.units import (
     AMOUNTS,
     DENSITIES,
-    GRADES,
     LENGTHS,
     TEMPERATURES,
     VOLUMES,
@@ -49,21 +46,6 @@ _FIGURES = frozenset(
 _LONG = ("day", "tag", "value", "unit")
 # The kinds whose column of names has streams, tanks or products.
 _OF_ANY = ("densities", "temperatures", "gauges")
-# Units that the figures of a column may have; without one a figure has two readings.
-_UNITS_OF: dict[str, Collection[str]] = {
-    "level": LENGTHS,
-    "water": LENGTHS,
-    "temperature": TEMPERATURES,
-    "volume": VOLUMES,
-    "amount": AMOUNTS,
-    "value": AMOUNTS,
-    "density": DENSITIES,
-    "grade": GRADES,
-    "moisture": GRADES,
-    "error": {*AMOUNTS, *LENGTHS, *GRADES},
-    "base": AMOUNTS,
-}
-_MOST_MM = 3_000  # a level of more whole units is in millimetres: no tank has 30 m in cm
 
 
 @dataclass
@@ -394,17 +376,17 @@ class Columns:
         is_wide = self._is_wide(column)
         if to in ("", OPEN) or to is None and not is_wide:
             return
-        if not self.kind.columns and of in OF_TANKS and column.unit in _UNITS_OF[of]:
+        if not self.kind.columns and of in OF_TANKS and column.unit in UNITS_OF[of]:
             units[column.key], self.evidence[path] = column.unit, column.unit_said
             return
-        allowed = _UNITS_OF.get(to or "")
+        allowed = UNITS_OF.get(to or "")
         if to == "error" and self.kind.word in ("densities", "temperatures"):
             allowed = DENSITIES if self.kind.word == "densities" else ()
             if column.unit not in allowed:
                 return  # in kg/m3 and in degrees
         if is_wide:
             allowed = AMOUNTS if not self.kind.columns else {*VOLUMES, *LENGTHS}
-            allowed = _UNITS_OF.get(of, DENSITIES if self.kind.word == "densities" else allowed)
+            allowed = UNITS_OF.get(of, DENSITIES if self.kind.word == "densities" else allowed)
         if allowed is None or not (column.there or is_wide):
             return
         if column.unit and (column.unit in allowed or is_rate(column.unit)):
@@ -417,7 +399,9 @@ class Columns:
         if not column.numbers or (to == "value" and self.kind.columns):
             return  # each figure has its own unit, or none is needed
         guess, said = self._guess_unit(column, to or "")
-        if guess is not None and to != "temperature":
+        if guess is None and said:
+            self.evidence[path] = said
+        elif guess is not None and to != "temperature":
             units[column.key], self.evidence[path] = guess, said
 
     def _ask_density_error(self, columns: dict[str, str], units: dict[str, str], unit: str) -> None:
@@ -435,29 +419,16 @@ class Columns:
         return bool(self._tank(column)) or (not self.kind.columns and bool(self._tag(column)))
 
     def _guess_unit(self, column: ColumnProfile, to: str) -> tuple[str | None, str]:
-        """Return the unit of figures without one, by their size; `?` if that doesn't decide."""
-        title = self._unit_of_titles(to)
+        """Return the unit of figures without one; `?` if nothing decides, None if none is needed."""
+        title = unit_in_titles(self.profile.titles, to)
         if title:
             return title, "a title above says so"
-        numbers = column.decimals
-        least, most = (min(numbers), max(numbers)) if numbers else (Decimal(0), Decimal(0))
-        if to == "density" and numbers:
-            if least >= 100 and most <= 3_000:
-                return "kg/m3", why.as_densities(least, most, "kg/m3")
-            if least > Decimal("0.3") and most < 3:
-                return "t/m3", why.as_densities(least, most, "t/m3")
-        if to == "level" and numbers and all(n == int(n) for n in numbers) and most > _MOST_MM:
-            return "mm", why.as_millimetres(most)
-        if to == "amount" and self.has_units and "stream" in self.heads:
-            return None, ""
-        if any(each == 0 for each in numbers) and to == "error" and most == 0:
-            return None, ""
-        return OPEN, why.no_unit(least, most, list(_UNITS_OF[to])[:6])
-
-    def _unit_of_titles(self, to: str) -> str:
-        found = {split_unit(title)[1] for title in self.profile.titles} - {""}
-        fit = [unit for unit in found if unit in _UNITS_OF.get(to, ())]
-        return fit[0] if len(fit) == 1 and len(found) == 1 else ""
+        if to == "value" and not self.kind.columns or to == "amount" and "stream" in self.heads:
+            texts = {text for each in self.profile.columns for text in each.names()}
+            booked = self.known.units_of(texts.intersection(self.known.meters))
+            if booked or (self.has_units and to == "amount"):
+                return None, why.unit_of_book(booked) if booked and not self.has_units else ""
+        return unit_by_size(column, to)
 
     def _unit(self, columns: dict[str, str], units: dict[str, str]) -> str:
         """Return the unit of all figures below tags or tanks, if their columns don't say it."""
@@ -470,6 +441,16 @@ class Columns:
         lacks = [column for column in wide if column.key not in units and column.numbers]
         if not lacks or (not self.kind.columns and (self.has_units or self.is_long)):
             return ""
+        if not self.kind.columns:
+            booked = {each.key: self.known.units_of([self._tag(each)]) for each in lacks}
+            if all(booked.values()):
+                every = self.known.units_of([self._tag(each) for each in lacks])
+                self.evidence["unit",] = why.unit_of_book(every)
+                return ""
+            for key, found in booked.items():
+                if found:  # of the others alone it is asked
+                    units[key], self.evidence["units", key] = found[0], why.unit_of_book(found)
+            lacks = [each for each in lacks if each.key not in units]
         to = {"straps": "volume", "dips": "level", "densities": "density"}.get(
             self.kind.word, "amount"
         )

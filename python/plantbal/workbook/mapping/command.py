@@ -11,7 +11,7 @@ from plantbal.book.opening import read_book
 from plantbal.book.years import Years
 from plantbal.files import write_text
 from plantbal.workbook.mapping.form import mapping_text
-from plantbal.workbook.mapping.known import KnownPlant
+from plantbal.workbook.mapping.known import KnownPlant, meter_units
 from plantbal.workbook.mapping.proposing import MappingProposal, propose
 from plantbal.workbook.sheets import read_workbook
 
@@ -76,4 +76,5 @@ def known_in_folder(folder: str | Path) -> KnownPlant:
     tags = tuple(meter.tag for meter in meters.values() if meter.tag)
     tanks = tuple(row[1] for row in last.plant if row[0] == "tank")
     streams = tuple(row[1] for row in last.plant if row[0] == "stream")
-    return KnownPlant(tags, streams, tanks)
+    units = meter_units((each.name, each.tag, each.unit) for each in meters.values())
+    return KnownPlant(tags, streams, tanks, units)

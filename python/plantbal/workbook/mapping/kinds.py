@@ -250,7 +250,7 @@ def _densities_said(profile: SheetProfile, months: list[ColumnProfile], by_name:
         all(500 <= each <= 1200 for each in numbers)
         or all(Decimal("0.5") <= each <= Decimal("1.2") for each in numbers)
     ):
-        ends = f"{min(numbers)} to {max(numbers)}"
+        ends = Sentence("{first} to {last}", first=min(numbers), last=max(numbers))
         return Sentence(
             "{count} heads are months, and the figures, {ends}, are as densities are",
             count=len(months),

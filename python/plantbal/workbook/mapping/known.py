@@ -3,7 +3,7 @@
 from __future__ import annotations
 
 import re
-from collections.abc import Sequence
+from collections.abc import Collection, Iterable, Sequence
 from dataclasses import dataclass
 
 # What parts the words of a head.
@@ -18,20 +18,45 @@ class KnownPlant:
     ----------
     tags, streams, tanks : tuple of str
         Their names.
+    units : tuple of (str, str)
+        Tags and streams whose meters have a unit, and the unit.
     """
 
     tags: tuple[str, ...] = ()
     streams: tuple[str, ...] = ()
     tanks: tuple[str, ...] = ()
+    units: tuple[tuple[str, str], ...] = ()
 
     def meter(self, head: str) -> str:
         """Return the tag in a head, or else the stream; empty if there is none, or several."""
         return tag_in(head, self.tags) or tag_in(head, self.streams)
 
     @property
+    def meters(self) -> tuple[str, ...]:
+        """The tags and streams."""
+        return (*self.tags, *self.streams)
+
+    def units_of(self, names: Collection[str]) -> list[str]:
+        """Return the units of some tags and streams, each once; none if one of them has none."""
+        units = dict(self.units)
+        return sorted({units[name] for name in names}) if names and {*names} <= {*units} else []
+
+    @property
     def names(self) -> tuple[str, ...]:
         """All of them."""
         return (*self.tags, *self.streams, *self.tanks)
+
+
+def meter_units(meters: Iterable[tuple[str, str, str]]) -> tuple[tuple[str, str], ...]:
+    """Return the units of meters by their streams and tags, as `KnownPlant` has them.
+
+    Parameters
+    ----------
+    meters : iterable of (str, str, str)
+        Stream, tag and unit of each.
+    """
+    told = [(name, unit) for *names, unit in meters if unit for name in names if name]
+    return tuple(dict(told).items())
 
 
 def tag_in(head: str, names: Sequence[str]) -> str:

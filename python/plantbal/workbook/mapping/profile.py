@@ -383,6 +383,12 @@ def split_unit(head: str) -> tuple[str, str]:
     return head.strip(), ""
 
 
+def unit_of_title(title: str) -> str:
+    """Return the unit that a title above a table says; one after a figure is that of this figure."""
+    name, unit = split_unit(title)
+    return unit if unit and not name[-1:].isdigit() else ""
+
+
 def _unit(text: str) -> str:
     """Return a unit, or one of a rate; empty if a text is none."""
     plain = unit_of(text.strip().removeprefix("in ").strip())

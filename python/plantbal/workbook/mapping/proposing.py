@@ -169,6 +169,7 @@ class _Proposing:
             tuple(dict.fromkeys([*own.tags, *tags])),
             tuple(dict.fromkeys([*own.streams, *streams])),
             tuple(dict.fromkeys([*own.tanks, *tanks])),
+            own.units,
         )
 
     # ---- sheets
@@ -225,9 +226,7 @@ class _Proposing:
                 found = Columns(self.profiles[at], SHEETS["streams"], self.known).assigned()
                 if "unit" in found.values():
                     return True
-        return not any(kind == "streams" for kind, _ in self.kinds.values()) and bool(
-            self.known.names
-        )
+        return False
 
     def _gauged(self) -> frozenset[str]:
         """Return the columns that the sheets of gauges have."""

@@ -73,6 +73,13 @@ def no_unit(least: Decimal, most: Decimal, choices: Iterable[str]) -> Sentence:
     return Sentence(form, least=least, most=most, choices=Joined(", ", choices))
 
 
+def unit_of_book(units: Collection[str]) -> Sentence:
+    """Return in which unit figures are read that have none, but whose meters have one in the book."""
+    one = "the file has no unit, and the book has {units} for each of these meters"
+    several = "the file has no unit, and each figure is read in that which the book has for its meter: {units}"
+    return Sentence(one if len(units) == 1 else several, units=Joined(", ", units))
+
+
 def unit_of_density(units: Iterable[str]) -> Sentence:
     """Return the question in which unit the errors of densities are."""
     form = "no unit is given, and the densities are in {units}: kg/m3, or the same"

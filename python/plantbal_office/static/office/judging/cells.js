@@ -146,7 +146,8 @@ export class CellReader {
       });
       if (others.length) {
         const readings = others.map((each) => `${text} ${each}`).join(' or ');
-        throw this.fault('LEVEL_WITHOUT_UNIT', { text, readings }, 'LEVEL_IN', { unit: others[0], mm: number.rounded });
+        const mm = number.times(lengths.get(others[0])).written(this.reading.marks[0]);
+        throw this.fault('LEVEL_WITHOUT_UNIT', { text, readings }, 'LEVEL_IN', { unit: others[0], mm, whole: number.rounded });
       }
     }
     return number.times(lengths.get(own || 'mm')).rounded;

@@ -38,6 +38,17 @@ export class Exact {
     return twice < this.under ? low : low + 1n;
   }
 
+  /** A number that isn't below 0 with all its decimals, which end, after a mark. */
+  written(mark) {
+    const low = floored(this.over, this.under);
+    let rest = this.over - low * this.under, digits = '';
+    while (rest > 0n) {
+      digits += String(10n * rest / this.under);
+      rest = 10n * rest % this.under;
+    }
+    return digits ? `${low}${mark}${digits}` : String(low);
+  }
+
   /** The least whole number that isn't less. */
   get raised() {
     return -floored(-this.over, this.under);
