@@ -36,6 +36,7 @@ from plantbal.model.readings import ReadingRows, ReadingRun
 from plantbal.model.state import State
 from plantbal.report.kept import kept_table
 from plantbal.report.output import Output
+from plantbal.sentence import Sentence
 from plantbal.study.uncertified import Uncertified
 
 TOP = Path(__file__).resolve().parents[2]
@@ -89,6 +90,7 @@ MAKERS: dict[type, Callable[[], Any]] = {
     Effect: lambda: DeclaresUnit("U"),
     YearLedger: ledger,
     Accounts: Accounts,
+    Sentence: lambda: Sentence("there are {count}", count=7),
 }
 PUBLIC = public()
 CLASSES = {name: each for name, each in PUBLIC.items() if isinstance(each, type)}

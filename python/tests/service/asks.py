@@ -58,6 +58,8 @@ _PLANTS: dict[tuple[str, str], Ask] = {
     ("plants:done", "POST"): Ask(302, ["done/{task}"], elsewhere=404),
     ("enter:drop", "GET"): Ask(200, ["enter/"]),
     ("enter:drop", "POST"): Ask(302, ["enter/"], {"locale": "de"}, {"workbook": "june"}),
+    ("enter:kept", "GET"): Ask(200, ["enter/mapping"]),
+    ("enter:kept", "POST"): Ask(302, ["enter/mapping"], {}, {"workbook": "june"}),
     ("enter:seen", "GET"): Ask(200, ["enter/{drop}"], elsewhere=404),
     ("enter:mapping", "GET"): Ask(200, ["enter/{own}/mapping"], elsewhere=404),
     ("enter:mapping", "POST"): Ask(200, ["enter/{own}/mapping"], elsewhere=404),
