@@ -43,7 +43,9 @@ def test_what_a_proposal_rests_on(gap: Site) -> None:
     Book(gap.book).amend("FI-201", "2024-04-22", "20000 t", why="a digit was wrong")
     suspects = suspects_now(gap.plant, MONTH)
     (each,) = Book(gap.book).estimate(MONTH).proposals
-    assert "PULP" in rests_on(each, suspects) and "which the report suspects" in sentence(gap.get(PAGE))
+    assert "PULP" in rests_on(each, suspects) and "which the report suspects" in sentence(
+        gap.get(PAGE)
+    )
     assert not rests_on(each, frozenset({"ORE_TO_NOWHERE"}))
 
 
