@@ -10,9 +10,10 @@ from statistics import median_low
 from plantbal.lint.findings import Finding, place_in, some_of
 from plantbal.lint.remedies import LintRemedy
 from plantbal.lint.studies import classes_in
-from plantbal.lint.values import FEWEST_OF_A_MEDIAN, GREAT_TIMES, SMALL_PART
+from plantbal.lint.values import GREAT_TIMES, SMALL_PART
 from plantbal.model.booking import Assay
 from plantbal.model.ledger import Ledger
+from plantbal.model.sizes import FEWEST_OF_A_MEDIAN
 from plantbal.sentence import Sentence, counted
 
 

@@ -2,10 +2,9 @@
 
 from __future__ import annotations
 
-from collections.abc import Callable, Iterator, Sequence
+from collections.abc import Callable, Iterator
 from math import isqrt
 from operator import attrgetter
-from statistics import median_low
 
 from plantbal.lint.findings import Finding, called, of_facts, tonnes_said
 from plantbal.model.facts import Fact
@@ -17,8 +16,6 @@ from plantbal.sentence import Sentence
 SMALL = 100_000
 # Values this many times their median are in another unit, and so are those below this part of it.
 GREAT_TIMES, SMALL_PART = 50, 500
-FEWEST_OF_A_MEDIAN = 3
-_GRAMS: Callable[[Fact], int] = attrgetter("grams")
 _VARIANCE: Callable[[Fact], int] = attrgetter("variance")
 # Grams per cubic metre: liquid gas has some 500,000, a bed of iron ore some 2,500,000.
 DENSITIES = range(400_000, 3_000_001)
@@ -27,15 +24,15 @@ DENSITIES = range(400_000, 3_000_001)
 def magnitudes(ledger: Ledger) -> Iterator[Finding]:
     """Yield the facts that are far from the others of their stream."""
     found: list[tuple[Fact, int]] = []
-    for facts in ledger.amounts.values():
-        sizes, least, middle = _sizes(facts)
-        if middle:
-            great, small = GREAT_TIMES * middle, middle // SMALL_PART
-            if max(sizes) >= great or least <= small:
+    for stream, facts in ledger.amounts.items():
+        sizes = ledger.sizes[stream]
+        if sizes.middle:
+            great, small = GREAT_TIMES * sizes.middle, sizes.middle // SMALL_PART
+            if sizes.most >= great or sizes.least <= small:
                 found += [
-                    (fact, middle)
-                    for fact, size in zip(facts, sizes)
-                    if size >= great or 0 < size <= small
+                    (fact, sizes.middle)
+                    for fact in facts
+                    if abs(fact.grams) >= great or 0 < abs(fact.grams) <= small
                 ]
     yield from of_facts(ledger, "magnitude", found, _far)
 
@@ -58,30 +55,22 @@ def _far(fact: Fact, middle: int) -> tuple[str, str]:
     return text, "look for another unit of measure, or a decimal point at another place"
 
 
-def _sizes(facts: Sequence[Fact]) -> tuple[list[int], int, int]:
-    """Return the amounts without signs, the least that isn't 0, and the median of those; 0 if too
-    few aren't 0."""
-    sizes = [abs(grams) for grams in map(_GRAMS, facts)]
-    some: list[int] = list(filter(None, sizes))
-    middle = median_low(some) if len(some) >= FEWEST_OF_A_MEDIAN else 0
-    return sizes, min(some, default=0), middle
-
-
 def odd_deviations(ledger: Ledger) -> Iterator[Finding]:
     """Yield the facts whose standard deviation is very small or very large beside their value."""
     small: list[tuple[Fact, int]] = []
     large: list[tuple[Fact, int]] = []
     for stream, facts in ledger.amounts.items():
-        base = ledger.streams[stream].base
-        sizes, least, middle = _sizes(facts)
+        base, sizes = ledger.streams[stream].base, ledger.sizes[stream]
         variances = list(map(_VARIANCE, facts))
         lowest = min(variances) or min(base, min(filter(None, variances), default=base))
-        if not _is_below(lowest, max(sizes)) and max(variances) <= max(least, middle) ** 2:
+        usual = max(sizes.least, sizes.middle)
+        if not _is_below(lowest, sizes.most) and max(variances) <= usual**2:
             continue  # none of them is
-        for fact, size in zip(facts, sizes):
+        for fact in facts:
+            size = abs(fact.grams)
             if _is_small(fact.variance or base, size):
                 small.append((fact, size))
-            elif size and fact.variance > max(size, middle) ** 2:
+            elif size and fact.variance > max(size, sizes.middle) ** 2:
                 large.append((fact, size))
     for fact in ledger.dips:
         content = ledger.state.content(fact)

@@ -185,12 +185,15 @@ class FactRule(NamedTuple):
         What of a reading it looks at.
     refused : callable
         Says whether it refuses a fact.
+    some : callable
+        Says whether it may refuse a reading of a session.
     only : callable or None
         Says of which streams it refuses some reading; None for all.
     """
 
     looks: LooksAt
     refused: Callable[[BooksFact, State], Refused | None]
+    some: Callable[[State], bool] = lambda state: True
     only: Callable[[State, str], bool] | None = None
 
 
@@ -199,17 +202,27 @@ def _is_at_times(state: State, name: str) -> bool:
     return state.plant.service(name) is not None
 
 
+def _has_closed(state: State) -> bool:
+    """Say whether a period is closed."""
+    return state.periods.first_closed is not None
+
+
+def _of_one_day(state: State) -> bool:
+    """Say that no reading is refused for how its days are: it has one."""
+    return False
+
+
 # The rules about facts, in the order of their codes.
 FACT_RULES = (
     FactRule(LooksAt.STREAM, BooksFact.place_refused),
     FactRule(LooksAt.KEYS, BooksFact.id_refused),
     FactRule(LooksAt.KEYS, BooksFact.day_refused),
-    FactRule(LooksAt.DAY, BooksFact.order_refused),
+    FactRule(LooksAt.DAY, BooksFact.order_refused, some=_of_one_day),
     FactRule(LooksAt.STREAM, BooksFact.kind_refused),
-    FactRule(LooksAt.DAY, BooksFact.closed_refused),
-    FactRule(LooksAt.DAY, BooksFact.length_refused),
+    FactRule(LooksAt.DAY, BooksFact.closed_refused, some=_has_closed),
+    FactRule(LooksAt.DAY, BooksFact.length_refused, some=_of_one_day),
     FactRule(LooksAt.STREAM, BooksFact.level_refused),
-    FactRule(LooksAt.STREAM_AND_DAY, BooksFact.service_refused, _is_at_times),
+    FactRule(LooksAt.STREAM_AND_DAY, BooksFact.service_refused, only=_is_at_times),
     FactRule(LooksAt.COUNT, BooksFact.count_refused),
 )
 

@@ -21,7 +21,7 @@ from plantbal.model.facts import Fact
 from plantbal.model.forms import LIMITS, NAMES, all_match, are_within, fault_of, row_of
 from plantbal.model.readings import ReadingRun
 from plantbal.records import without_empty_end
-from plantbal.schema import schema
+from plantbal.schema import Column, schema
 
 if TYPE_CHECKING:
     from plantbal.model.state import State
@@ -62,7 +62,7 @@ def _forms_refused(run: ReadingRun) -> dict[int, int]:
             wholes = numbers[column.name]
             good = wholes is not None and are_within(wholes, column.low, column.high)
         else:
-            good = column.name == "id" and all_match(NAMES, texts)
+            good = _fit(column, run, texts)
         if not good:
             # each text once: streams and days are few
             reasons = {text: fault_of(column, text) for text in set(texts)}
@@ -71,6 +71,13 @@ def _forms_refused(run: ReadingRun) -> dict[int, int]:
                 code = wrong[texts[place]]
                 found[place] = min(code, found.get(place, code))
     return found
+
+
+def _fit(column: Column, run: ReadingRun, texts: Sequence[str]) -> bool:
+    """Say whether the names or the days of a run are all of the form of their column."""
+    if column.type == "date":
+        return -1 not in run.distinct_days
+    return all_match(NAMES, texts if column.name == "id" else list(run.distinct_streams))
 
 
 @dataclass(frozen=True, slots=True)
@@ -113,7 +120,7 @@ def _by_rules(state: State, run: ReadingRun, looks: Set[LooksAt] = frozenset(Loo
     found = _ByRules({}, {}, {})
     days = run.distinct_days - {-1} if LooksAt.DAY in looks else set()
     for turn, rule in enumerate(FACT_RULES):
-        if rule.looks not in looks:
+        if rule.looks not in looks or not rule.some(state):
             continue
         if rule.looks is LooksAt.STREAM:
             names = run.distinct_streams - found.of_stream.keys()
@@ -162,8 +169,11 @@ def _codes(state: State, run: ReadingRun) -> bytes:
     for place, code in forms.items():
         first[place] = code
     later = rules.codes(run, range(_KEYS[-1], len(FACT_RULES)))
-    ids, slots, mine = state.facts.keys_taken(run)
     left = LIMITS["most_facts"] - len(state.facts)
+    good = [not code for code in first]
+    if not any(later) and state.facts.has_room(run, good, left):
+        return bytes(first)
+    ids, slots, mine = state.facts.keys_taken(run)
     for place, (identity, slot) in enumerate(zip(run.ids, mine)):
         if first[place]:
             continue
@@ -188,22 +198,21 @@ def unmetered(state: State, run: ReadingRun) -> set[int]:
 def _asked(
     rule: FactRule, state: State, values: Set[T], reading: Callable[[T], BooksFact]
 ) -> dict[T, int]:
-    """Return the values for which a rule refuses a reading, with their codes.
-
-    The others aren't asked for again.
-    """
-    passed = state.passed[rule]
-    left = values - passed
-    answers = ((value, rule.refused(reading(value), state)) for value in left)
-    wrong = {value: int(answer.cause) for value, answer in answers if answer is not None}
-    passed |= left - wrong.keys()
-    return wrong
+    """Return the values for which a rule refuses a reading, with their codes: each is asked once."""
+    asked = state.asked[rule]
+    for value in values:
+        if value not in asked:
+            answer = rule.refused(reading(value), state)
+            asked[value] = 0 if answer is None else int(answer.cause)
+    return {value: code for value in values if (code := asked[value])}
 
 
 def _of_pairs(rule: FactRule, state: State, run: ReadingRun, before: _ByRules) -> dict[int, int]:
     """Return the places of readings that a rule refuses for its stream and its day together."""
-    streams = run.distinct_streams - before.of_stream.keys()
+    never = state.asked[rule]
+    streams = {name for name in run.distinct_streams if name not in never} - before.of_stream.keys()
     asked = {name for name in streams if rule.only is None or rule.only(state, name)}
+    never.update(dict.fromkeys(streams - asked, 0))
     days = run.distinct_days - before.of_day.keys() - {-1}
     found: dict[int, int] = {}
     for place, (name, day) in enumerate(zip(run.streams, run.days)) if asked else ():

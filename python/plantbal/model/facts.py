@@ -7,8 +7,9 @@ from __future__ import annotations
 
 from collections import Counter
 from collections.abc import Callable, Collection, Iterable, Iterator, Sequence
+from itertools import compress
 from operator import add
-from typing import TYPE_CHECKING, Generic, NamedTuple, TypeVar
+from typing import TYPE_CHECKING, NamedTuple, TypeVar
 
 if TYPE_CHECKING:
     from plantbal.model.readings import ReadingRun
@@ -101,31 +102,35 @@ class _Places(dict[str, int]):
         return number
 
 
-class TakenKeys(Generic[K]):
-    """The ids, or the slots, that facts have: of those that are made, and of runs that wait."""
+class TakenKeys(dict[K, int]):
+    """The ids, or the slots, that facts have, and the numbers of these facts."""
 
-    def __init__(self) -> None:
-        self.made: dict[K, int] = {}
-        self.waiting: set[K] = set()
+    def take(self, keys: Sequence[K], first: int) -> bool:
+        """Take the keys of facts that are numbered from a first one on; say whether they are taken.
 
-    def __contains__(self, key: K) -> bool:
-        return key in self.made or key in self.waiting
-
-    def take(self, keys: Sequence[K]) -> bool:
-        """Take some keys, if none is there already and none is there twice; say whether they are.
-
-        If they aren't, what waits isn't known any more.
+        They aren't if one is there already, or is there twice.
         """
-        if self.made and not self.made.keys().isdisjoint(keys):
+        if not self.keys().isdisjoint(keys):
             return False
-        wanted = len(self.waiting) + len(keys)
-        self.waiting.update(keys)
-        return len(self.waiting) == wanted
+        wanted = len(self) + len(keys)
+        self.update(zip(keys, range(first, first + len(keys))))
+        if len(self) == wanted:
+            return True
+        self.leave(keys)
+        return False
+
+    def leave(self, keys: Iterable[K]) -> None:
+        """Forget keys of which none was there before they were taken."""
+        for key in keys:
+            self.pop(key, None)
+
+    def are_free(self, keys: Sequence[K]) -> bool:
+        """Say whether none of some keys is there already, or there twice."""
+        return self.keys().isdisjoint(keys) and len(set(keys)) == len(keys)
 
     def taken_of(self, keys: Iterable[K]) -> set[K]:
         """Return those that are there already."""
-        some = set(keys)
-        return (self.made.keys() & some) | (self.waiting & some)
+        return self.keys() & set(keys)
 
     def places_taken(self, keys: Sequence[K]) -> set[int]:
         """Return the places of those that are there already, or there twice."""
@@ -156,8 +161,8 @@ class Facts:
         self._slots: TakenKeys[int] = TakenKeys()
         self._of = _Places()
         self._transfers: dict[str, list[int]] = {}
-        # the slots of a run are known if it wasn't booked unseen
-        self._runs: list[tuple[ReadingRun, list[int] | None]] = []
+        # runs whose facts aren't made yet; the keys of those that were booked unseen aren't taken yet
+        self._runs: list[ReadingRun] = []
         self._unseen = False
         self._verify = verify
         self._count = 0
@@ -175,11 +180,12 @@ class Facts:
     def ids(self) -> list[str]:
         """Return the ids of all facts, in the order of their rows."""
         self._made()
-        return list(self._ids.made)
+        return list(self._ids)
 
     def live(self) -> list[Fact]:
         """Return the facts that aren't struck."""
-        return [fact for fact in self._made() if not fact.struck]
+        facts = self._made()
+        return [fact for fact in facts if not fact.struck] if self.struck else list(facts)
 
     def live_of(self, places: Collection[str]) -> list[Fact]:
         """Return the facts of some streams and tanks that aren't struck."""
@@ -187,7 +193,7 @@ class Facts:
 
     def find(self, identity: str) -> Fact | None:
         """Return the fact of an id, struck or not, or None."""
-        facts, number = self._made(), self._ids.made.get(identity)
+        facts, number = self._made(), self._ids.get(identity)
         return None if number is None else facts[number]
 
     def has(self, of: str, day: int) -> bool:
@@ -201,13 +207,12 @@ class Facts:
 
     def on(self, of: str, day: int) -> Fact | None:
         """Return the reading or the dip of a day, or None."""
-        facts, number = self._made(), self._slots.made.get(self._slot(of, day))
+        facts, number = self._made(), self._slots.get(self._slot(of, day))
         return None if number is None else facts[number]
 
     def on_days(self, of: str, days: Iterable[int]) -> list[Fact]:
         """Return the readings of a stream on some days."""
-        facts, on = self._made(), self._slots.made
-        first = self._of[of]
+        facts, on, first = self._made(), self._slots, self._of[of]
         numbers = (on.get(first + day) for day in days)
         return [facts[number] for number in numbers if number is not None]
 
@@ -222,41 +227,51 @@ class Facts:
     def book(self, fact: Fact) -> None:
         """Book a fact."""
         facts = self._made()
-        number = self._ids.made[fact.id] = len(facts)
+        number = self._ids[fact.id] = len(facts)
         facts.append(fact)
         self._count += 1
         if fact.kind == "transfer":
             self._transfers.setdefault(fact.of, []).append(number)
         else:
-            self._slots.made[self._slot(fact.of, fact.first)] = number
+            self._slots[self._slot(fact.of, fact.first)] = number
 
     def book_run(self, run: ReadingRun) -> bool:
         """Book a run of readings, if no id and no day of it is taken; say whether it is booked."""
-        slots = self._slots_of(run)
-        if self._ids.take(run.ids) and self._slots.take(slots):
-            self._wait(run, slots)
-            return True
-        self._made()
-        return False
+        ids, slots = self._seen(self._ids), self._slots_of(run)
+        if not ids.take(run.ids, self._count):
+            return False
+        if not self._slots.take(slots, self._count):
+            ids.leave(run.ids)
+            return False
+        self._wait(run)
+        return True
 
     def book_unseen(self, run: ReadingRun) -> None:
         """Book a run of readings of which it is known that no id and no day is taken."""
         self._unseen = True
-        self._wait(run, None)
+        self._wait(run)
 
-    def _wait(self, run: ReadingRun, slots: list[int] | None) -> None:
-        self._runs.append((run, slots))
+    def _wait(self, run: ReadingRun) -> None:
+        self._runs.append(run)
         self._count += len(run)
 
     def taken(self, run: ReadingRun) -> set[int]:
         """Return the places of the readings whose id or day is taken, or there twice."""
-        slots = self._slots_of(run)
-        return self._ids.places_taken(run.ids) | self._slots.places_taken(slots)
+        ids, slots = self._seen(self._ids), self._slots_of(run)
+        return ids.places_taken(run.ids) | self._slots.places_taken(slots)
 
     def keys_taken(self, run: ReadingRun) -> tuple[set[str], set[int], list[int]]:
         """Return which ids and slots of a run are taken before it, and the slots of the run."""
-        slots = self._slots_of(run)
-        return self._ids.taken_of(run.ids), self._slots.taken_of(slots), slots
+        ids, slots = self._seen(self._ids), self._slots_of(run)
+        return ids.taken_of(run.ids), self._slots.taken_of(slots), slots
+
+    def has_room(self, run: ReadingRun, wanted: Sequence[bool], most: int) -> bool:
+        """Say whether some readings of a run are at most so many, and none has a key that is taken."""
+        ids = list(compress(run.ids, wanted))
+        slots = list(compress(self._slots_of(run), wanted))
+        return (
+            len(ids) <= most and self._seen(self._ids).are_free(ids) and self._slots.are_free(slots)
+        )
 
     def _slots_of(self, run: ReadingRun) -> list[int]:
         return list(map(add, map(self._of.__getitem__, run.streams), run.days))
@@ -267,11 +282,11 @@ class Facts:
     def change(self, fact: Fact) -> None:
         """Put a fact in place of the one of its id, of the same kind, place and days."""
         facts = self._made()
-        facts[self._ids.made[fact.id]] = fact
+        facts[self._ids[fact.id]] = fact
         if fact.struck:
             self.struck += 1
             if fact.kind != "transfer":
-                del self._slots.made[self._slot(fact.of, fact.first)]
+                del self._slots[self._slot(fact.of, fact.first)]
 
     # ---- runs that wait
 
@@ -294,21 +309,20 @@ class Facts:
         return 0
 
     def _made(self) -> list[Fact]:
-        """Return all facts; those of runs are made and numbered now."""
-        facts, ids, on = self._facts, self._ids, self._slots
-        for run, slots in self._runs:
-            if slots is None:
-                self._verify(run)
-                slots = self._slots_of(run)
-            numbers = range(len(facts), len(facts) + len(slots))
-            wanted = len(ids.made) + len(slots), len(on.made) + len(slots)
-            ids.made.update(zip(run.ids, numbers))
-            on.made.update(zip(slots, numbers))
-            if (len(ids.made), len(on.made)) != wanted:
-                raise run.disagreement(self._clash(run, slots))
-            facts.extend(run.facts())
-        self._runs.clear()
-        self._unseen = False
-        ids.waiting.clear()
-        on.waiting.clear()
+        """Return all facts; those of runs are made now."""
+        facts, runs = self._facts, self._runs
+        if runs:
+            for run in runs:
+                if self._unseen:
+                    self._take(run)
+                facts.extend(run.facts())
+            runs.clear()
+            self._unseen = False
         return facts
+
+    def _take(self, run: ReadingRun) -> None:
+        """Take the keys of a run that was booked unseen, when the facts before it are made."""
+        self._verify(run)
+        slots, first = self._slots_of(run), len(self._facts)
+        if not (self._ids.take(run.ids, first) and self._slots.take(slots, first)):
+            raise run.disagreement(self._clash(run, slots))

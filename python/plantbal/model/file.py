@@ -171,7 +171,10 @@ def _answered(
     for some in part.apart(refused | odd):
         begin = some.record - part.record
         if not explained() and odd <= refused:
-            yield from _told_apart(state, part.rest(begin), codes[begin:], state.after_accepted)
+            left = part.rest(begin)
+            assert isinstance(left.rows, ReadingRows)
+            run = ReadingRun(left.rows, left.lines)
+            yield from _told_apart(left, run, codes[begin:], state.after_accepted)
             return
         if isinstance(some.rows, ReadingRows):
             yield _accepted(state, some)
@@ -196,16 +199,14 @@ def _coded(state: State, part: Rows, place: int, code: int, explained: Callable[
 
 
 def _told_apart(
-    state: State, part: Rows, codes: bytes, take: Callable[[ReadingRun], None]
+    part: Rows, run: ReadingRun, codes: bytes, take: Callable[[ReadingRun], None]
 ) -> Iterator[Rows | Coded]:
     """Give the readings of a run that are accepted, taken together, and the codes of the others."""
-    assert isinstance(part.rows, ReadingRows)
     good = [not code for code in codes]
     if any(good):
-        lines = list(compress(part.lines, good))
-        run = ReadingRun(part.rows.only(good), lines)
-        take(run)
-        yield Rows(run.rows, part.record + good.index(True), lines, run)
+        accepted = run.only(good)
+        take(accepted)
+        yield Rows(accepted.rows, part.record + good.index(True), accepted.lines, accepted)
     records = range(part.record, part.record + len(codes))
     yield Coded(list(compress(records, codes)), bytes(filter(None, codes)))
 
@@ -231,12 +232,15 @@ def _judged(
     if not rows.odd and state.takes_run(run):
         yield replace(part, run=run)
         return
-    for some in part.apart(rows.odd or state.apart(run) if explained() else {0}):
+    if not explained():
+        yield from _told_apart(part, run, codes_of(state, run), state.after_readings)
+        return
+    for some in part.apart(rows.odd or state.apart(run)):
         if not explained():
             left = part.rest(some.record - part.record)
             assert isinstance(left.rows, ReadingRows)
-            codes = codes_of(state, ReadingRun(left.rows, left.lines))
-            yield from _told_apart(state, left, codes, state.after_readings)
+            run = ReadingRun(left.rows, left.lines)
+            yield from _told_apart(left, run, codes_of(state, run), state.after_readings)
             return
         if not isinstance(some.rows, ReadingRows) or rows.odd:
             yield from _judged(state, some, explained, together)

@@ -4,7 +4,7 @@ from __future__ import annotations
 
 import datetime
 import re
-from collections.abc import Sequence
+from collections.abc import Iterable, Sequence
 from functools import lru_cache
 
 from plantbal.model.causes import Reason, Refused
@@ -18,6 +18,7 @@ NAME = re.compile(rf"[A-Za-z0-9_.-]{{1,{LIMITS['most_name']}}}")
 NAMES = re.compile(rf"(?:{NAME.pattern}(?:\n|\Z))*+")
 _REASON = re.compile(rf"[ -~]{{1,{LIMITS['most_reason']}}}")
 DATE = re.compile(r"[0-9]{4}-[0-9]{2}-[0-9]{2}")
+_DATES = re.compile(rf"(?:{DATE.pattern}(?:\n|\Z))*+")
 # A number of more digits is none that a column takes.
 _DIGITS = 60
 _WHOLE = re.compile(rf"0|-?[1-9][0-9]{{0,{_DIGITS - 1}}}")
@@ -53,6 +54,20 @@ def day_of(text: str) -> int:
     number = day_number(text)
     assert number is not None
     return number
+
+
+def days_of(texts: Iterable[str]) -> dict[str, int]:
+    """Return the number of the day that each of some texts writes; -1 for what is none."""
+    some = list(set(texts))
+    if all_match(_DATES, some):
+        try:
+            days = [datetime.date.fromisoformat(text) for text in some]
+        except ValueError:
+            days = []  # the day of one isn't there, and it is looked for below
+        if days and FIRST_DAY <= min(days) and max(days) <= LAST_DAY:
+            return {text: day.toordinal() for text, day in zip(some, days)}
+    numbers = ((text, day_number(text)) for text in some)
+    return {text: -1 if number is None else number for text, number in numbers}
 
 
 def day_of_number(number: int) -> datetime.date:
@@ -201,7 +216,7 @@ def _row_of_version(record: tuple[str, ...], version: int, stored: bool) -> Row 
     return Refused(reason, "kind", word)
 
 
-class _Form:
+class Form:
     """The form of a row of a fixed number of fields: one pattern of them, ranges and dates."""
 
     def __init__(self, row: Row) -> None:
@@ -237,19 +252,15 @@ class _Form:
 
 
 # The forms of rows by their identity: the rows of the schema are made once.
-_FORMS_OF: dict[int, _Form] = {}
+_FORMS_OF: dict[int, Form] = {}
 
 
-def _form_of(row: Row) -> _Form:
+def form_of(row: Row) -> Form:
+    """Return the form of a row that has no tail."""
     found = _FORMS_OF.get(id(row))
     if found is None:
-        found = _FORMS_OF[id(row)] = _Form(row)
+        found = _FORMS_OF[id(row)] = Form(row)
     return found
-
-
-def form_fits(row: Row, record: tuple[str, ...]) -> bool:
-    """Say whether the fields of a record are of the forms of a row that has no tail."""
-    return _form_of(row).fits(record)
 
 
 def form_refused(row: Row, record: tuple[str, ...]) -> Refused | None:
@@ -257,7 +268,7 @@ def form_refused(row: Row, record: tuple[str, ...]) -> Refused | None:
 
     Names come first, then numbers, then dates.
     """
-    if not row.tail and form_fits(row, record):
+    if not row.tail and form_of(row).fits(record):
         return None
     worst: tuple[Reason, Column, str] | None = None
     columns = row.columns_for(len(record) - 1) if row.tail else row.columns

@@ -12,6 +12,8 @@ from plantbal.model.periods import Period
 from plantbal.model.topology import Arc
 
 ENV = "env"
+# A volume above each that a table has.
+_ABOVE = LIMITS["most_volume"] + 1
 # From the first to the last day on which a stream or tank is in service, both counted; None is
 # every day.
 Service = tuple[int, int] | None
@@ -167,7 +169,7 @@ class DeclaredPlant:
     def volume(self, tank: str, mm: int) -> int:
         """Return what a tank holds at a level of its table, in millilitres."""
         table = self.tables[tank]
-        place = bisect_right(table, mm, key=lambda point: point[0])
+        place = bisect_right(table, (mm, _ABOVE))
         if place == len(table):
             return table[-1][1]
         (low, below), (high, above) = table[place - 1], table[place]

@@ -4,28 +4,27 @@
 does, or why it is refused, has it judged (`plantbal.model.state`). No rule stands here: those of a
 fact are `FACT_RULES`, and a rule that looks at nothing but the stream, or the days, of a reading or a
 transfer is asked once for each of them, until something else than a fact is stored.
+
+The form of each row and what reads it are found once, by its kind and how many fields it has.
 """
 
 from __future__ import annotations
 
+from collections.abc import Callable
 from typing import TYPE_CHECKING
 
-from plantbal.model.booking import FACT_RULES, Amends, BooksFact, LooksAt, Strikes
+from plantbal.model.booking import FACT_RULES, Amends, BooksFact, FactRule, LooksAt, Strikes
 from plantbal.model.causes import Refused
 from plantbal.model.facts import At, Fact
-from plantbal.model.forms import ROWS, day_of, form_fits
-from plantbal.schema import Row
+from plantbal.model.forms import ROWS, day_of, form_of
 
 if TYPE_CHECKING:
     from plantbal.model.state import State
 
+_Read = Callable[[tuple[str, ...], int], Fact | Amends | Strikes]
 _BY_STREAM = [rule for rule in FACT_RULES if rule.looks is LooksAt.STREAM]
 _BY_DAYS = [rule for rule in FACT_RULES if rule.looks is LooksAt.DAY]
 _OTHERS = [rule for rule in FACT_RULES if rule.looks not in (LooksAt.STREAM, LooksAt.DAY)]
-_KINDS = ("reading", "transfer", "dip", "amend", "strike")
-_BY_COUNT: dict[tuple[str, int], Row] = {
-    (kind, len(row.columns) + 1): row for kind in _KINDS for row in ROWS[kind]
-}
 
 
 def taken(state: State, record: tuple[str, ...], at: At) -> Refused | bool:
@@ -46,49 +45,100 @@ def taken(state: State, record: tuple[str, ...], at: At) -> Refused | bool:
         Whether it is taken, or why a rule refuses it; false if it has another form, or is of
         another kind, and has to be judged.
     """
-    row = _BY_COUNT.get((record[0], len(record))) if record else None
-    if row is None or not form_fits(row, record):
+    form = _FORMS.get((record[0], len(record))) if record else None
+    if form is None or not form[0](record):
         return False
-    effect, passes = _read(record), False
-    if record[0] in ("reading", "transfer"):
-        assert isinstance(effect, BooksFact)
-        passes = _passes(state, effect)
-    refused = None if passes else effect.refused(state)
+    said = form[1](record, at.line)
+    if not isinstance(said, Fact):
+        refused = said.refused(state)
+        if refused is None:
+            said.store(state, at)
+    else:
+        refused = _fact_refused(state, BooksFact(said, False))
+        if refused is None:
+            state.facts.book(said)
     if refused is not None:
         return refused
-    effect.store(state, at)
     state.stored = True
     return True
 
 
-def _read(record: tuple[str, ...]) -> BooksFact | Amends | Strikes:
-    """Return the effect of a row by the order of its columns."""
-    kind, identity, *fields = record
-    if kind == "strike":
-        return Strikes(identity, fields[0])
-    if kind == "amend":
-        *values, variance, reason = fields
-        of_dip = len(values) == 2
-        amount = (0, int(values[0]), int(values[1])) if of_dip else (int(values[0]), 0, 0)
-        return Amends(identity, amount, of_dip, int(variance), reason)
-    first = last = day_of(fields[1])
-    if kind == "transfer":
-        last = day_of(fields[2])
-    level = (0, int(fields[2]), int(fields[3])) if kind == "dip" else (int(fields[-2]), 0, 0)
-    fact = Fact(kind, identity, fields[0], first, last, *level, int(fields[-1]))
-    return BooksFact(fact, False)
+# ---- what a row says, by the order of its columns
 
 
-def _passes(state: State, books: BooksFact) -> bool:
-    """Say whether each rule lets a fact pass: those of its stream first, which others need."""
-    fact, passed = books.fact, state.passed_facts
-    keys = (fact.kind, fact.of), (fact.first, fact.last)
-    for key, rules in zip(keys, (_BY_STREAM, _BY_DAYS)):
-        if key not in passed:
-            if any(rule.refused(books, state) is not None for rule in rules):
-                return False
-            passed.add(key)
-    for rule in _OTHERS:
+def _reading(record: tuple[str, ...], line: int) -> Fact:
+    _kind, identity, of, day, grams, variance = record
+    on = day_of(day)
+    return Fact("reading", identity, of, on, on, int(grams), 0, 0, int(variance), line, line, line)
+
+
+def _transfer(record: tuple[str, ...], line: int) -> Fact:
+    _kind, identity, of, first, last, grams, variance = record
+    days, amount = (day_of(first), day_of(last)), int(grams)
+    return Fact("transfer", identity, of, *days, amount, 0, 0, int(variance), line, line, line)
+
+
+def _dip(record: tuple[str, ...], line: int) -> Fact:
+    _kind, identity, of, day, mm, density, variance = record
+    on, level = day_of(day), (int(mm), int(density))
+    return Fact("dip", identity, of, on, on, 0, *level, int(variance), line, line, line)
+
+
+def _amend(record: tuple[str, ...], line: int) -> Amends:
+    _kind, identity, *values, variance, reason = record
+    of_dip = len(values) == 2
+    amount = (0, int(values[0]), int(values[1])) if of_dip else (int(values[0]), 0, 0)
+    return Amends(identity, amount, of_dip, int(variance), reason)
+
+
+def _strike(record: tuple[str, ...], line: int) -> Strikes:
+    return Strikes(record[1], record[2])
+
+
+_READ: dict[str, _Read] = {
+    "reading": _reading,
+    "transfer": _transfer,
+    "dip": _dip,
+    "amend": _amend,
+    "strike": _strike,
+}
+# Of a kind and so many fields: whether a row is of the form, and what it says.
+_FORMS: dict[tuple[str, int], tuple[Callable[[tuple[str, ...]], bool], _Read]] = {
+    (kind, len(row.columns) + 1): (form_of(row).fits, read)
+    for kind, read in _READ.items()
+    for row in ROWS[kind]
+}
+
+
+# ---- which rule refuses a fact
+
+
+def _fact_refused(state: State, books: BooksFact) -> Refused | None:
+    """Return why a fact is refused, or None."""
+    rules = None if books.fact.kind == "dip" else _left(state, books)
+    if rules is None:
+        return books.refused(state)
+    for rule in rules:
         if rule.refused(books, state) is not None:
-            return False
-    return True
+            return books.refused(state)  # with the first of all rules
+    return None
+
+
+def _left(state: State, books: BooksFact) -> list[FactRule] | None:
+    """Return the rules that are left to ask of a reading or a transfer; None if one refuses it.
+
+    Those of its stream are asked first, which others need.
+    """
+    fact = books.fact
+    of_stream, days = (fact.kind, fact.of), (fact.first, fact.last)
+    left = state.left.get(of_stream)
+    if left is None:
+        if any(rule.refused(books, state) is not None for rule in _BY_STREAM):
+            return None
+        left = [rule for rule in _OTHERS if rule.only is None or rule.only(state, fact.of)]
+        state.left[of_stream] = left
+    if days not in state.passed_days:
+        if any(rule.refused(books, state) is not None for rule in _BY_DAYS):
+            return None
+        state.passed_days.add(days)
+    return left

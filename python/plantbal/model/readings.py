@@ -7,20 +7,22 @@ asked for.
 
 from __future__ import annotations
 
-from collections.abc import Iterable, Iterator, Sequence
-from functools import cached_property
+from collections.abc import Callable, Iterable, Iterator, Sequence
+from functools import cached_property, partial
 from itertools import compress, repeat
-from typing import overload
+from typing import Any, cast, overload
 
 from plantbal.faults import ModelFault, Place
 from plantbal.model.facts import Fact
-from plantbal.model.forms import day_number, wholes_of
+from plantbal.model.forms import days_of, wholes_of
 from plantbal.records import without_empty_end
 
 # The kinds, ids, streams, days, grams and variances of readings.
 Columns = Sequence[Sequence[str]]
 _COLUMNS = 6
 _END = "\n"
+# A fact of all its values, without a call of a function of Python's for each.
+_FACT = cast(Callable[[tuple[Any, ...]], Fact], partial(tuple.__new__, Fact))
 
 
 class ReadingRows(Sequence[Sequence[str]]):
@@ -177,8 +179,7 @@ class ReadingRun:
     def days(self) -> list[int]:
         """The numbers of the days; -1 for what is none."""
         texts = self.rows.columns[3]
-        numbers = {text: _number(text) for text in set(texts)}
-        return list(map(numbers.__getitem__, texts))
+        return list(map(days_of(texts).__getitem__, texts))
 
     @cached_property
     def distinct_streams(self) -> frozenset[str]:
@@ -208,13 +209,19 @@ class ReadingRun:
         """Give its facts; the forms of its fields have to be those of a reading."""
         assert self.grams is not None and self.variances is not None
         no, on = repeat(0), self.days
-        kinds = repeat("reading", len(self.rows))
+        kinds, lines = repeat("reading", len(self.rows)), list(self.lines)
         values = self.grams, no, no, self.variances
-        lines = self.lines, self.lines, self.lines
-        return map(Fact, kinds, self.ids, self.streams, on, on, *values, *lines)
+        columns = kinds, self.ids, self.streams, on, on, *values, lines, lines, lines
+        return map(_FACT, zip(*columns, repeat(False)))
 
-
-def _number(day: str) -> int:
-    """Return the number of a day, or -1."""
-    found = day_number(day)
-    return -1 if found is None else found
+    def only(self, wanted: Sequence[bool]) -> ReadingRun:
+        """Return the readings of which it is said that they are wanted."""
+        found = ReadingRun(self.rows.only(wanted), list(compress(self.lines, wanted)))
+        if not self.rows.are_columns:
+            return found
+        found.days = list(compress(self.days, wanted))
+        if self.grams is not None:
+            found.grams = list(compress(self.grams, wanted))
+        if self.variances is not None:
+            found.variances = list(compress(self.variances, wanted))
+        return found

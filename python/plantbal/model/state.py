@@ -119,11 +119,13 @@ class State:
         The same by component and period, and by the stream or tank.
     edits : list of Edit
         The edits and closes, in order.
-    passed : dict of FactRule to set
-        The streams and the days of which a rule refuses no reading, as far as it was asked.
-    passed_facts : set
-        The kinds with their streams, and the first and last days, of which no rule refuses a reading
-        or a transfer that has its own day and id.
+    asked : dict of FactRule to dict
+        The code that a rule refuses each reading of a stream, or of a day, with, as far as it was
+        asked; 0 if it refuses none.
+    left : dict of (str, str) to list of FactRule
+        The rules that are left to ask of each fact of a kind and a stream that a session may have.
+    passed_days : set of (int, int)
+        The first and last days of which no rule refuses a reading or a transfer.
     """
 
     def __init__(self, core: Core | None = None) -> None:
@@ -136,8 +138,9 @@ class State:
         self.assays: dict[tuple[str, str, str], Assay] = {}
         self.grades: dict[tuple[str, str], dict[str, Assay]] = {}
         self.edits: list[Edit] = []
-        self.passed: defaultdict[FactRule, set[Any]] = defaultdict(set)
-        self.passed_facts: set[tuple[object, object]] = set()
+        self.asked: defaultdict[FactRule, dict[Any, int]] = defaultdict(dict)
+        self.left: dict[tuple[str, str], list[FactRule]] = {}
+        self.passed_days: set[tuple[int, int]] = set()
 
     def __getstate__(self) -> dict[str, Any]:
         # a session of the library can't be copied; who copies a state asks anew, or has these rules
@@ -216,8 +219,9 @@ class State:
             effect = answer.effect
             effect.store(self, at)
             if not isinstance(effect, BooksFact):
-                self.passed.clear()
-                self.passed_facts.clear()
+                self.asked.clear()
+                self.left.clear()
+                self.passed_days.clear()
             self.stored = self.stored or not (effect.asks or isinstance(effect, Blank))
         return answer
 
