@@ -155,3 +155,13 @@ def test_a_stream_that_ends_nowhere() -> None:
         if row["row"] == "node" and row["name"] != "env":
             row["name"] = "ELSEWHERE"
     assert deviations_of(Output(rows).blocks_in_order[-1]) is None
+
+
+@pytest.mark.parametrize("variance", [0, -1, 10**22 + 1, 10**400])
+def test_a_variance_that_nothing_has(variance: int) -> None:
+    """A report of other hands; one of this size was a traceback of an audit."""
+    output = plantbal.read_report(TOP / "examples" / "refinery_day.out.csv")
+    rows = [dict(row) for row in output.rows]
+    stream = next(row for row in rows if row["row"] == "stream" and row["value"])
+    stream["variance"] = str(variance)
+    assert deviations_of(Output(rows).blocks_in_order[-1]) is None

@@ -13,6 +13,7 @@ import heapq
 from collections.abc import Collection, Sequence
 from dataclasses import dataclass
 
+from plantbal.model.studies import MOST_VARIANCE
 from plantbal.report.blocks import Block
 from plantbal.study.plant import plant_of
 
@@ -72,6 +73,8 @@ def deviations_of(block: Block) -> dict[str, float] | None:
         plant = plant_of(block)
     except KeyError:
         return None  # an end is no node: a check says so
+    if any(not 1 <= plant.variance[place] <= MOST_VARIANCE for place in plant.measured):
+        return None  # nothing is measured so: a check says so
     net: _Network = {node: {} for node in range(len(plant.names))}
     wanted = []
     for place, (ends, row) in enumerate(zip(plant.ends, plant.streams)):
