@@ -126,6 +126,15 @@ class Fault(Exception):
         said = f"{self.place} {self.what}".strip()
         return f"{said}: {self.remedy}" if self.remedy else said
 
+    @property
+    def sentence(self) -> str:
+        """All of it as a part of another sentence: where, what, and what to do about it."""
+        what = phrase(self.what)
+        if str(self.place):
+            what = Sentence("{place} {what}", place=self.place, what=what)
+        remedy = phrase(self.remedy)
+        return Sentence("{what}: {remedy}", what=what, remedy=remedy) if remedy else what
+
     def __reduce__(self) -> tuple[Any, ...]:
         # an exception is otherwise made again of its args alone, which the words of __init__ aren't
         return _made_again, (type(self), self.args, dict(self.__dict__))

@@ -103,6 +103,20 @@ class Day(str):
     """A day as 2024-06-30."""
 
 
+class Moment(str):
+    """A moment as 2024-06-30T12:30:00Z, which another language than English has to the minute."""
+
+    def said_in(self, language: Language) -> str:
+        """Return it in a language; what is no moment stays as it is."""
+        if isinstance(language, English):
+            return str(self)
+        try:
+            found = datetime.datetime.fromisoformat(self.replace("Z", "+00:00"))
+        except ValueError:
+            return str(self)
+        return f"{language.day(found.date())} {found:%H:%M}"
+
+
 def counted(count: int, one: str, many: str, /, **values: object) -> Sentence:
     """Return a sentence on a count, by the form for one or that for another number."""
     return Sentence(one if count == 1 else many, count=count, **values)
@@ -191,4 +205,6 @@ def said_in(language: Language, text: str) -> str:
         return language.figure(text)
     if isinstance(text, Day):
         return language.day(datetime.date.fromisoformat(text))
+    if isinstance(text, Moment):
+        return text.said_in(language)
     return language.form(text) if text else ""

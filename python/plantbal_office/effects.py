@@ -22,6 +22,7 @@ from plantbal.faults import Fault
 from plantbal.gates import Stop
 from plantbal.report.blocks import Block
 from plantbal.report.output import Output, parse_report
+from plantbal.sentence import Joined, phrase
 from plantbal_office.plants.models import Plant
 from plantbal_office.shelf import KEPT, book_contents, plain_book, run_settings
 
@@ -145,7 +146,7 @@ def report_said(output: Output, stops: Sequence[Stop] = (), holes: Sequence[str]
     """Return what a report says as a whole."""
     block = output.reports[-1] if output.reports else None
     if block is None or block.solved is None:
-        return Said("; ".join(output.why) or "no report", "bad", stops=tuple(stops))
+        return Said(Joined("; ", output.why) or phrase("no report"), "bad", stops=tuple(stops))
     whole = block.whole or {}
     level = "look" if stops or whole.get("verdict") != "accept" else "good"
     if whole.get("verdict") == "reject" or block.solved["state"] != "converged":

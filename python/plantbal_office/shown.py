@@ -190,7 +190,7 @@ def gridcells(cells: Iterable[GridCell]) -> SafeString:
 def change_cells(change: PostingChange) -> list[str]:
     """Return the cells of a change between two reports."""
     cells = change_row(change)
-    return [*cells[:3], *(in_language(cell) for cell in cells[3:6])]
+    return [cells[0], said(cells[1]), cells[2], *(in_language(cell) for cell in cells[3:6])]
 
 
 @register.filter

@@ -23,7 +23,7 @@ from plantbal.accounts.owned import Owned, owned
 from plantbal.accounts.sheet import Accounts
 from plantbal.accounts.spread import Across, Sum, deviations
 from plantbal.accounts.stock import Opened, Stock, rolled
-from plantbal.sentence import Phrase, Sentence
+from plantbal.sentence import Phrase, Sentence, phrase
 
 
 class Level(Enum):
@@ -108,7 +108,9 @@ class AccountTable:
     @property
     def title(self) -> str:
         """What it is called."""
-        return f"{self.level.value} {self.name}" if self.name else self.level.value
+        if not self.name:
+            return phrase(self.level.value)
+        return Sentence("{level} {name}", level=phrase(self.level.value), name=self.name)
 
     @property
     def moving(self) -> list[AccountLine]:

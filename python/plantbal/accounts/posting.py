@@ -25,8 +25,10 @@ from plantbal.amounts import tonnes_of
 from plantbal.faults import Fault, InputFault, Place
 from plantbal.inert import inert
 from plantbal.model.plant import ENV
+from plantbal.sentence import Sentence, phrase
 
 PROCESS = "process"
+_STOCK = "stock "  # before the name of a tank
 HEADS = ("posting", "period", "name", "what", "from", "to", "product", "group", "grams")
 POSTING_HEADS = (
     *("posting", "line", "period", "account", "stream or tank", "product", "group", "t", "cause"),
@@ -86,7 +88,22 @@ def handed_over(account: MonthAccount) -> State:
 
 
 def _stock_account(tank: str) -> str:
-    return f"stock {tank}"
+    return f"{_STOCK}{tank}"
+
+
+def account_said(account: str) -> str:
+    """Return the name of an account in words; its files have it in English."""
+    if account.startswith(_STOCK) and account != AccountLine.ADJUSTMENT.value:
+        return Sentence("stock {tank}", tank=account.removeprefix(_STOCK))
+    return phrase(account)
+
+
+def moved_said(item: Item) -> str:
+    """Return between which accounts a figure moves, or which line of a tank's stock it is."""
+    if item.what != FLOW:
+        return phrase(item.what)
+    source, target = account_said(item.source), account_said(item.target)
+    return Sentence("{start} to {end}", start=source, end=target)
 
 
 def _flow_item(flow: MonthFlow, tanks: set[str], accounts: Accounts) -> Item:
@@ -177,7 +194,7 @@ def check_postings(postings: Sequence[Posting]) -> None:
     process = sum(each.grams for each in postings if each.account == PROCESS)
     if total or process:
         raise Fault(
-            f"these postings leave {total or process:,} g",
+            Sentence("these postings leave {grams:,} g", grams=total or process),
             remedy="the report's flows don't balance: plantbal-desk check says where",
         )
 
@@ -242,7 +259,9 @@ def parse_posted(name: str, text: str) -> Posted:
         rows = list(csv.reader(io.StringIO(text, newline=""), strict=True))
     except csv.Error as error:
         raise InputFault(
-            f"this isn't CSV: {error}", place=Place(file=name), remedy=remedy
+            Sentence("this isn't CSV: {why}", why=str(error)),
+            place=Place(file=name),
+            remedy=remedy,
         ) from error
     if not rows or tuple(rows[0]) != HEADS:
         what = "this isn't a file of what was posted"

@@ -18,7 +18,7 @@ from plantbal.accounts.account import (
 from plantbal.accounts.entries import AccountLine
 from plantbal.accounts.sheet import NOBODY
 from plantbal.amounts import tonnes_of, tonnes_text
-from plantbal.sentence import Figure
+from plantbal.sentence import Figure, Sentence, phrase
 
 HEADS = ("account", "line", "t", "± t", "sales", "unit", "basis")
 STOCK_HEADS = (
@@ -54,7 +54,7 @@ def unaccounted_percent(left: Unaccounted) -> str:
 def title_of(table: AccountTable) -> str:
     """Return what an account is called; what has no owner is nobody's."""
     if table.level is Level.OWNER and not table.name:
-        return f"{table.level.value} {NOBODY}"
+        return Sentence("{level} {name}", level=phrase(table.level.value), name=phrase(NOBODY))
     return table.title
 
 

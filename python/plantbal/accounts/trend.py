@@ -16,6 +16,7 @@ from statistics import mean, stdev
 from plantbal.accounts.account import MonthAccount
 from plantbal.accounts.entries import AccountLine
 from plantbal.accounts.tables import title_of
+from plantbal.sentence import Sentence
 
 LEAST_MONTHS = 3  # with fewer there is no spread to speak of
 _SURE = 0.99
@@ -62,7 +63,7 @@ class MonthFigure:
 
 def figures_of(account: MonthAccount) -> dict[tuple[str, str], MonthFigure]:
     """Return the figures of a month's accounts by account and line."""
-    found = {}
+    found: dict[tuple[str, str], MonthFigure] = {}
     groups = account.groups if len(account.groups) > 1 else []
     for table in [account.plant, *groups]:
         for line, amount in table.lines.items():
@@ -73,7 +74,7 @@ def figures_of(account: MonthAccount) -> dict[tuple[str, str], MonthFigure]:
             found[title_of(table), "unaccounted"] = MonthFigure(left.grams, left.deviation)
     for tank in account.tanks:
         figure = MonthFigure(tank.stock.adjustment, tank.adjustment)
-        found[f"tank {tank.stock.tank}", AccountLine.ADJUSTMENT.value] = figure
+        found[Sentence("tank {name}", name=tank.stock.tank), AccountLine.ADJUSTMENT.value] = figure
     return found
 
 

@@ -16,6 +16,7 @@ from plantbal.audit.said import SentenceKind, first_wrong
 from plantbal.book.forms import MEASURED as OF_BOOK
 from plantbal.faults import InputFault, Place, decoded, read_bytes
 from plantbal.limits import SESSION_BYTES
+from plantbal.sentence import Sentence
 from plantbal.volumes.trail import Trail, read_trails, trails_text
 
 # A mass is kept with twelve decimals, and so are the figures that it follows from.
@@ -109,21 +110,25 @@ def _fits(trail: Trail, rows: Sequence[Sequence[str]]) -> bool:
 
 def differs(trail: Trail, rows: Sequence[Sequence[str]]) -> str:
     """Return in what a trail contradicts itself, or the session; nothing if it does so in nothing."""
-    said = f"row {trail.row} ({trail.fact})"
+    words: dict[str, object] = {"row": trail.row, "fact": trail.fact}
     try:
         grams, again = Decimal(trail.figures["grams"]), trail.again()
         booked, variance = int(trail.figures["booked"]), trail.figures["variance"]
     except (ArithmeticError, ValueError):
-        return f"{said}: one of its figures isn't a number"
+        return Sentence("row {row} ({fact}): one of its figures isn't a number", **words)
     if abs(again - grams) > _NEAR:
-        return f"{said}: its figures give {again:.3f} g, and {grams:.3f} g were found"
+        form = "row {row} ({fact}): its figures give {again:.3f} g, and {grams:.3f} g were found"
+        return Sentence(form, again=again, grams=grams, **words)
     if not _fits(trail, rows):
-        return f"{said}: the session doesn't have this fact there"
+        return Sentence("row {row} ({fact}): the session doesn't have this fact there", **words)
     figures = booked_figures(rows[trail.row - 1])[1]
     if figures[-1] != variance:
-        return f"{said}: the session has the variance {figures[-1]}, and {variance} was found"
+        form = "row {row} ({fact}): the session has the variance {there}, and {found} was found"
+        return Sentence(form, there=figures[-1], found=variance, **words)
     if len(figures) == 2 and (int(figures[0]) != booked or abs(booked - again) > 1):
-        return f"{said}: the session has {figures[0]} g, and its figures give {again:.3f} g"
+        form = "row {row} ({fact}): the session has {there} g, and its figures give {again:.3f} g"
+        return Sentence(form, there=figures[0], again=again, **words)
     if len(figures) == 3 and figures[0] != trail.figures["level"]:
-        return f"{said}: the session has {figures[0]} mm, and the file {trail.figures['level']} mm"
+        form = "row {row} ({fact}): the session has {there} mm, and the file {found} mm"
+        return Sentence(form, there=figures[0], found=trail.figures["level"], **words)
     return ""

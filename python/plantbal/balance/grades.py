@@ -18,6 +18,7 @@ from plantbal.balance.table import Recovery, recoveries_of
 from plantbal.faults import Fault
 from plantbal.model.ledger import Ledger
 from plantbal.report.blocks import Block
+from plantbal.sentence import Sentence, phrase
 
 Cell = str | float | None
 _NAN = float("nan")
@@ -111,21 +112,23 @@ def grades_of(mass: Block, assays: Mapping[tuple[str, str], Measured]) -> Grades
     known = {key: grade for key, grade in assays.items() if key[0] in names}
     for stream, component in assays:
         if stream not in names:
-            found.said.append(f"{component} in {stream} is left out: it isn't in service")
+            form = "{component} in {stream} is left out: it isn't in service"
+            found.said.append(Sentence(form, component=component, stream=stream))
     wanted = []
     for component in dict.fromkeys(component for _, component in known):
         streams = [stream for stream, other in known if other == component]
         if len(streams) > 1:
             wanted.append(component)
         else:
-            found.said.append(f"{component} is left out: it was assayed in {streams[0]} alone")
+            form = "{component} is left out: it was assayed in {stream} alone"
+            found.said.append(Sentence(form, component=component, stream=streams[0]))
     if not wanted:
         return found
     own = {key: grade for key, grade in known.items() if key[1] in wanted}
     try:
         together = Known(solve(Problem(tuple(flows), tuple(wanted), own)))
     except Fault as fault:
-        found.said.append(str(fault))
+        found.said.append(fault.sentence)
         return found
     return of_known(together, found.said)
 
@@ -164,7 +167,8 @@ def of_known(known: Known, said: Sequence[str] = ()) -> Grades:
         What is to be said of them already.
     """
     problem = known.system.problem
-    bounds = [f"{bound.said}: the measurements pull it there" for bound in known.held]
+    form = "{bound}: the measurements pull it there"
+    bounds = [Sentence(form, bound=phrase(bound.said)) for bound in known.held]
     grades = {
         component: [_grade(known, flow, component) for flow in problem.flows if not flow.only]
         for component in problem.components

@@ -24,6 +24,7 @@ from plantbal.balance.worth import (
 from plantbal.faults import Fault, InputFault, Place, WordsFault
 from plantbal.files import replacing, write_text
 from plantbal.report.chart import ENDINGS
+from plantbal.sentence import Sentence, phrase
 from plantbal.statuses import ExitStatus
 from plantbal.workbook.cells import Reader
 from plantbal.workbook.locales import check_locale
@@ -113,27 +114,40 @@ def _deviation(
         share = float(error.share) * abs(state.flow(stream))
         found = max(share, float(error.grams) / GRAMS)
     if not found > 0:
-        of = component or "a meter"
+        of = component or phrase("a meter")
         what = BalanceCause.NOT_AN_ERROR_OF(text=cell.text, what=of, stream=stream)
-        remedy = f"write one that isn't 0, such as {'2 %' if component else '1.5 % or 20 t'}"
+        remedy = Sentence("write one that isn't 0, such as 2 %")
+        if not component:
+            remedy = Sentence("write one that isn't 0, such as 1.5 % or 20 t")
         raise reader.fault(cell, what, remedy, "error")
     return found
 
 
-def instrument_named(text: str, state: PeriodState) -> Instrument:
-    """Return what STREAM or STREAM:COMPONENT=ERROR names, with its error if there is one."""
+def instrument_named(text: str, state: PeriodState, locale: str = "en") -> Instrument:
+    """Return what STREAM or STREAM:COMPONENT=ERROR names, with its error if there is one.
+
+    Parameters
+    ----------
+    text : str
+        The text.
+    state : PeriodState
+        The flows and errors of the period.
+    locale : str
+        Whose numbers the error has.
+    """
     name, _, error = text.partition("=")
     stream, _, component = name.partition(":")
     if stream not in state.problem.place:
-        remedy = f"use one of {', '.join(state.problem.place)}"
-        raise Fault(f"there is no stream {stream}", text=text, remedy=remedy)
+        remedy = Sentence("use one of {words}", words=", ".join(state.problem.place))
+        raise Fault(Sentence("there is no stream {name}", name=stream), text=text, remedy=remedy)
     if component and component not in state.problem.components:
-        there = ", ".join(state.problem.components) or "none"
-        raise Fault(f"no grade of {component} is known", text=text, remedy=f"there are {there}")
+        what = Sentence("no grade of {component} is known", component=component)
+        there = ", ".join(state.problem.components) or phrase("none")
+        raise Fault(what, text=text, remedy=Sentence("there are {names}", names=there))
     if not error:
         return Instrument(stream, component)
     cell = Cell(Sheet("", "", [], is_csv=True), 0, 0, error)
-    return Instrument(stream, component, _deviation(Reader("en"), state, stream, component, cell))
+    return Instrument(stream, component, _deviation(Reader(locale), state, stream, component, cell))
 
 
 def add_arguments(parser: argparse.ArgumentParser) -> None:

@@ -12,6 +12,7 @@ from dataclasses import dataclass, field
 from functools import cached_property
 
 from plantbal.faults import Fault, InputFault, Place
+from plantbal.sentence import Sentence
 
 ENV = "env"
 
@@ -95,17 +96,22 @@ class Problem:
         for flow in self.flows:
             if flow.name in names:
                 raise Fault(
-                    f"the stream {flow.name} appears twice", remedy="give each its own name"
+                    Sentence("the stream {name} appears twice", name=flow.name),
+                    remedy="give each its own name",
                 )
             names.add(flow.name)
             if flow.start == flow.end:
                 raise Fault(
-                    f"the stream {flow.name} begins and ends at {flow.start}",
+                    Sentence(
+                        "the stream {name} begins and ends at {node}",
+                        name=flow.name,
+                        node=flow.start,
+                    ),
                     remedy="a stream joins two different nodes: correct its ends",
                 )
             if flow.measured and not flow.measured.variance > 0:
                 raise InputFault(
-                    f"the flow of {flow.name} has no error",
+                    Sentence("the flow of {name} has no error", name=flow.name),
                     place=flow.measured.place,
                     remedy="give the standard deviation of its measurement",
                 )
@@ -175,7 +181,7 @@ def water_of(solids: Measured) -> Measured:
     part = solids.value
     if not 0 < part <= 1:
         raise InputFault(
-            f"{part * 100:g} % can't be the solids of a pulp",
+            Sentence("{percent:g} % can't be the solids of a pulp", percent=part * 100),
             place=solids.place,
             remedy="the part of a pulp that is solids is above 0 and at most 100 %: look at its unit",
         )
@@ -192,7 +198,11 @@ def solids_of(density: Measured, of_solids: float, of_water: float = 1.0) -> Mea
     """
     if not of_water < density.value <= of_solids:
         raise InputFault(
-            f"a pulp of {density.value:g} t/m3 isn't between water and solids of {of_solids:g} t/m3",
+            Sentence(
+                "a pulp of {density:g} t/m3 isn't between water and solids of {solids:g} t/m3",
+                density=density.value,
+                solids=of_solids,
+            ),
             place=density.place,
             remedy="look at its unit: t/m3, the same for all three",
         )
@@ -209,19 +219,32 @@ def _check_grades(problem: Problem, names: set[str]) -> None:
             raise InputFault(what, place=grade.place, remedy="correct its name")
         if component not in problem.components:
             raise InputFault(
-                f"an assay of {stream} names {component}, which isn't balanced",
+                Sentence(
+                    "an assay of {stream} names {component}, which isn't balanced",
+                    stream=stream,
+                    component=component,
+                ),
                 place=grade.place,
                 remedy="name the component among those to be balanced, or leave the assay out",
             )
         if grade.value < 0 or (grade.value > 1 and component not in problem.ratios):
             raise InputFault(
-                f"{component} in {stream} is {grade.value * 100:g} %",
+                Sentence(
+                    "{component} in {stream} is {percent:g} %",
+                    component=component,
+                    stream=stream,
+                    percent=grade.value * 100,
+                ),
                 place=grade.place,
                 remedy="a grade is between 0 and 100 %: look at its unit",
             )
         if not grade.variance > 0:
             raise InputFault(
-                f"the assay of {component} in {stream} has no error",
+                Sentence(
+                    "the assay of {component} in {stream} has no error",
+                    component=component,
+                    stream=stream,
+                ),
                 place=grade.place,
                 remedy="give its standard deviation",
             )
@@ -229,10 +252,12 @@ def _check_grades(problem: Problem, names: set[str]) -> None:
         streams = [stream for stream, other in problem.grades if other == component]
         streams += [flow.name for flow in problem.flows if flow.only == component and flow.measured]
         if len(streams) < 2:
-            where = f"in {streams[0]} alone" if streams else "nowhere"
+            form = "{component} was assayed nowhere"
+            if streams:
+                form = "{component} was assayed in {stream} alone"
             known = (each for key, each in problem.grades.items() if key[1] == component)
             raise InputFault(
-                f"{component} was assayed {where}",
+                Sentence(form, component=component, stream="".join(streams)),
                 place=next((each.place for each in known), None),
                 remedy="a balance needs the grades of two streams at least: add assays",
             )
@@ -246,7 +271,11 @@ def _check_grades(problem: Problem, names: set[str]) -> None:
         slack = 3 * sum(grade.variance for grade in own) ** 0.5
         if total > 1 + slack:
             raise InputFault(
-                f"the assays of {flow.name} sum to {total * 100:.2f} %",
+                Sentence(
+                    "the assays of {name} sum to {percent:.2f} %",
+                    name=flow.name,
+                    percent=total * 100,
+                ),
                 place=own[-1].place,
                 remedy="the components are parts of the stream: look at their units",
             )

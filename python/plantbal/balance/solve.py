@@ -24,6 +24,7 @@ from typing import Any
 from plantbal.balance.problem import Problem
 from plantbal.balance.system import System
 from plantbal.faults import Fault
+from plantbal.sentence import Sentence, phrase
 
 # The most steps, and the most changes of the bounds that hold.
 MOST_STEPS = 500
@@ -64,8 +65,13 @@ class NotFound(Fault):
 
     def __init__(self, worst: str, excess: float) -> None:
         super().__init__(
-            f"no flows and grades were found that balance: after {MOST_STEPS} steps {worst} is off"
-            f" by {excess:.2g} of the greatest flow",
+            Sentence(
+                "no flows and grades were found that balance: after {steps} steps {worst} is off by "
+                "{excess:.2g} of the greatest flow",
+                steps=MOST_STEPS,
+                worst=worst,
+                excess=excess,
+            ),
             remedy="look at the assays and meters around it, or leave one out",
         )
         self.worst = worst
@@ -106,8 +112,11 @@ class NoMinimum(Fault):
 
     def __init__(self, bound: Bound) -> None:
         super().__init__(
-            f"no flows and grades fit the measurements best: {bound.said}, and the greater it is, the"
-            " better they fit, without limit",
+            Sentence(
+                "no flows and grades fit the measurements best: {bound}, and the greater it is, the "
+                "better they fit, without limit",
+                bound=phrase(bound.said),
+            ),
             remedy="add a meter or an assay there, or look at the assays around it",
         )
         self.bound = bound
@@ -244,15 +253,18 @@ def bounds_of(system: System) -> list[Bound]:
         if flow.either_way:
             continue
         column = system.columns[flow.name, flow.only]
-        found.append(Bound(((column, 1.0),), 0.0, f"{flow.name} can't flow backwards"))
+        backwards = Sentence("{name} can't flow backwards", name=flow.name)
+        found.append(Bound(((column, 1.0),), 0.0, backwards))
         for component in () if flow.only else problem.components:
             own = system.columns[flow.name, component]
             assayed = (flow.name, component) in problem.grades
             rest = ((own, -1.0),) if assayed else ((own, -1.0), (column, 1.0))
-            what = f"{component} in {flow.name}"
-            found.append(Bound(((own, 1.0),), 0.0, f"{what} can't be below 0 %"))
+            of = {"component": component, "stream": flow.name}
+            below = Sentence("{component} in {stream} can't be below 0 %", **of)
+            found.append(Bound(((own, 1.0),), 0.0, below))
             if component not in problem.ratios:
-                found.append(Bound(rest, -1.0 if assayed else 0.0, f"{what} can't be above 100 %"))
+                above = Sentence("{component} in {stream} can't be above 100 %", **of)
+                found.append(Bound(rest, -1.0 if assayed else 0.0, above))
     return found
 
 

@@ -16,6 +16,7 @@ from plantbal.balance.problem import Measured, Problem
 from plantbal.balance.solve import Solution
 from plantbal.balance.system import System
 from plantbal.faults import Fault
+from plantbal.sentence import Joined, Sentence
 
 
 @dataclass(frozen=True, slots=True)
@@ -40,7 +41,9 @@ class Instrument:
     @property
     def said(self) -> str:
         """What it is called."""
-        return f"{self.component} in {self.stream}" if self.component else self.stream
+        if not self.component:
+            return self.stream
+        return Sentence("{component} in {stream}", component=self.component, stream=self.stream)
 
 
 @dataclass(frozen=True)
@@ -190,8 +193,10 @@ def known_after(state: PeriodState, add: Iterable[Instrument], lose: Iterable[In
     there = {(each.stream, each.component): each for each in state.here}
     for each in lose:
         if (each.stream, each.component) not in there:
-            names = ", ".join(sorted(other.said for other in state.here))
-            raise Fault(f"{each.said} isn't measured", text=each.said, remedy=f"use one of {names}")
+            names = Joined(", ", sorted(other.said for other in state.here))
+            what = Sentence("{name} isn't measured", name=each.said)
+            remedy = Sentence("use one of {words}", words=names)
+            raise Fault(what, text=each.said, remedy=remedy)
         del there[each.stream, each.component]
     left = [*there.values(), *add]
     if all(each.component for each in left):

@@ -10,7 +10,7 @@ from collections.abc import Iterator, Mapping, Sequence
 from dataclasses import dataclass, replace
 
 from plantbal.accounts.month import Month
-from plantbal.accounts.posting import FLOW, PostingChange
+from plantbal.accounts.posting import FLOW, PostingChange, moved_said
 from plantbal.accounts.entries import AccountLine
 from plantbal.accounts.spread import Slopes, Spread, Sum
 from plantbal.amounts import tonnes_of, tonnes_text
@@ -20,6 +20,7 @@ from plantbal.book.ledger import BookFact
 from plantbal.book.store import Store
 from plantbal.model.ledger import Ledger
 from plantbal.model.facts import Fact as Booked
+from plantbal.sentence import Joined, Moment, Sentence, phrase
 
 _LEAST = 0.01  # of what a change owes to facts: those with less aren't named
 _MOST = 3  # facts that are named
@@ -51,13 +52,15 @@ class DifferingFact:
     why: str
 
     @property
-    def short(self) -> str:
-        """It in a few words: `608 (BITUMEN) late`."""
-        return f"{self.id} ({self.of}) {self.word}"
+    def sentence(self) -> str:
+        """It in a sentence: which fact, what became of it, when, by whom and why."""
+        words = {"id": self.id, "of": self.of, "word": phrase(self.word), "said": self.said}
+        form = "{id} ({of}) {word}, {said}, {when} by {who}"
+        told = Sentence(form, when=Moment(self.when), who=self.who, **words)
+        return Sentence("{told}: {why}", told=told, why=str(self.why)) if self.why else told
 
     def __str__(self) -> str:
-        why = f": {self.why}" if self.why else ""
-        return f"{self.short}, {self.said}, {self.when} by {self.who}{why}"
+        return str(self.sentence)
 
 
 def causes_of(
@@ -75,7 +78,10 @@ def causes_of(
         fact = edit.fact
         if fact is None or not first < edit.at.line <= after.seen:
             continue
-        said = " becomes ".join(_said(each) for each in (edit.before, edit.after) if each)
+        some = [_said(each) for each in (edit.before, edit.after) if each]
+        said = some[0] if some else ""
+        if len(some) > 1:
+            said = Sentence("{was} becomes {now}", was=some[0], now=some[1])
         who, when, why = actions.get(edit.at.line, ("", "", ""))
         word = _WORDS[edit.word]
         found.append(DifferingFact(fact.id, fact.of, word, said, who, when, edit.reason or why))
@@ -164,10 +170,10 @@ def _cause(
     """Return the facts that caused a change, in words."""
     item = change.item
     if item.what == AccountLine.OPENING.value:
-        return "the month before is booked differently"
+        return phrase("the month before is booked differently")
     if item.what != FLOW and item.name not in by_stream:
         if item.what == AccountLine.ADJUSTMENT.value:
-            return "the month before is booked differently"
+            return phrase("the month before is booked differently")
     weight = {}
     for name, grams in moved.items():
         slope = (slopes or {}).get((period, name))
@@ -181,15 +187,17 @@ def _cause(
     ]
     facts = [cause for name in named for cause in by_stream[name]]
     if not facts:
-        return "the accounts' sheet, or the options of the run" if not by_stream else "other facts"
-    return "; ".join(_some(facts))
+        if not by_stream:
+            return phrase("the accounts' sheet, or the options of the run")
+        return phrase("other facts")
+    return Joined("; ", _some(facts))
 
 
 def _some(facts: Sequence[DifferingFact]) -> Iterator[str]:
     for cause in facts[:_MOST]:
-        yield str(cause)
+        yield cause.sentence
     if len(facts) > _MOST:
-        yield f"and {len(facts) - _MOST:,} more"
+        yield Sentence("and {count:,} more", count=len(facts) - _MOST)
 
 
 def change_row(change: PostingChange, plain: bool = False) -> tuple[str, ...]:
@@ -203,7 +211,7 @@ def change_row(change: PostingChange, plain: bool = False) -> tuple[str, ...]:
         Whether the figures are to be read by a program, without commas and signs.
     """
     item = change.item
-    account = item.what if item.what != FLOW else f"{item.source} to {item.target}"
+    account = moved_said(item)
     grams = (change.before, change.after, change.grams)
     if plain:
         figures = tuple(f"{tonnes_of(each):f}" for each in grams)

@@ -32,6 +32,7 @@ from plantbal.model.state import State
 from plantbal.model.topology import Arc
 from plantbal.model.words import refusal_of
 from plantbal.records import without_empty_end
+from plantbal.sentence import Sentence
 
 _SPAN: Callable[[Fact], Span] = itemgetter(3, 4)
 # What a row that asks for output costs, in streams that are looked at.
@@ -166,8 +167,11 @@ class Seen:
     def subject(self) -> str:
         """What is asked for, as `plantbal.report.blocks.Block.subject` says it."""
         if self.component:
-            return f"{self.component} in {self.period.name}"
-        return f"{self.period.name} to {self.last}" if self.last else self.period.name
+            form = "{component} in {period}"
+            return Sentence(form, component=self.component, period=self.period.name)
+        if self.last:
+            return Sentence("{first} to {last}", first=self.period.name, last=self.last)
+        return self.period.name
 
 
 def view_of(state: State, period: Period) -> View:

@@ -408,6 +408,7 @@ def _sentence(finding: Finding, last: Round | None) -> str:
 def _without_report(period: str, over: str) -> Verdict:
     """Return what is said of a period without a report."""
     if over:
-        why = f"The total of {over} is beyond the limits: look for a digit too many in its facts."
-        return Verdict("bad", "No report", [why])
-    return Verdict("plain", "No report", [f"The row report,{period} asks for one."])
+        form = "The total of {name} is beyond the limits: look for a digit too many in its facts."
+        return Verdict("bad", phrase("No report"), [Sentence(form, name=over)])
+    why = Sentence("The row report,{period} asks for one.", period=period)
+    return Verdict("plain", phrase("No report"), [why])

@@ -7,6 +7,7 @@ from typing import TYPE_CHECKING, Any
 
 from plantbal.accounts.account import AccountTable, MonthAccount
 from plantbal.accounts.entries import AccountLine
+from plantbal.accounts.posting import moved_said
 from plantbal.accounts.sheet import NOBODY
 from plantbal.accounts.tables import (
     basis_text,
@@ -35,6 +36,7 @@ def _environment() -> Environment:
         sales=sales_text,
         basis=basis_text,
         account_title=title_of,
+        moved=moved_said,
         shown=lambda table: list(shown_lines(table)),
     )
     return made

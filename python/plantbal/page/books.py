@@ -16,6 +16,7 @@ from plantbal.book.difference import difference_of, has_before
 from plantbal.book.opening import read_book
 from plantbal.page.accounts import part_of
 from plantbal.report.blocks import Values, blocks_of, last_blocks
+from plantbal.sentence import Sentence
 
 
 @dataclass
@@ -66,8 +67,8 @@ def booked(folder: str | None, rows: Sequence[Values], digest: str = "") -> From
         for name, block in there.items():
             month = rolled.months[rolled.at(name)]
             if month.block is None or month.block.streams != block.streams:
-                what = "the book has another report of it, so its account is left out"
-                found.said.append(f"{name}: {what}")
+                form = "{name}: the book has another report of it, so its account is left out"
+                found.said.append(Sentence(form, name=name))
                 continue
             account = rolled.account(name)
             since = difference_of(book, name, ()) if has_before(book, name) else None

@@ -11,7 +11,7 @@ from plantbal.faults import Fault
 from plantbal.model.topology import Arc
 from plantbal.page.layout import Box, Layout, Plan, Point, Route, layout_of, near, plan_of
 from plantbal.page.statement import StreamLine
-from plantbal.sentence import Figure, Sentence
+from plantbal.sentence import Figure, Sentence, phrase
 
 # Above this many streams the neighbourhood of one is drawn.
 MOST = 60
@@ -148,7 +148,7 @@ class Draftsman:
             Whose neighbourhood is drawn if the plant is large.
         """
         if not lines:
-            return Drawing(why="there is nothing to draw")
+            return Drawing(why=phrase("there is nothing to draw"))
         arcs = arcs_of(lines)
         widest = max((abs(line.flow) for line in lines if line.flow is not None), default=0)
         name = ""
@@ -158,7 +158,7 @@ class Draftsman:
         try:
             layout = self._layout(plan_of(arcs, self._letters))
         except Fault as fault:
-            self._why = self._why or str(fault)
+            self._why = self._why or fault.sentence
             return Drawing(why=self._why, chosen=name, widest=widest)
         return _drawn(layout, {line.name: line for line in lines}, name, widest)
 

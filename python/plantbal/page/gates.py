@@ -13,7 +13,7 @@ from typing import TYPE_CHECKING
 from plantbal.gates import Gate, Stop, about, remedy_of_stop, said_of_stop, stops_of
 from plantbal.model.ledger import Ledger
 from plantbal.report.blocks import Block
-from plantbal.sentence import Day, Sentence, phrase
+from plantbal.sentence import Day, Moment, Sentence, phrase
 
 if TYPE_CHECKING:
     from plantbal.accounts.sheet import SalesUnit
@@ -143,7 +143,8 @@ def _of_period(stops: Iterable[Stop], period: str, told: ClosingNotes) -> Period
         for gate, reason in reasons.items()
         if gate not in now
     ]
-    who, when = (close.who, close.when) if close is not None and reasons else ("", "")
+    is_answered = close is not None and bool(reasons)
+    who, when = (close.who, Moment(close.when)) if close is not None and is_answered else ("", "")
     return PeriodGates(shown, kept, quiet, who, when)
 
 

@@ -6,6 +6,7 @@ from typing import TYPE_CHECKING
 
 from plantbal.model.ledger import Ledger
 from plantbal.page.statement import PageContents
+from plantbal.sentence import Figure
 
 if TYPE_CHECKING:
     from plantbal.balance.grades import Grades
@@ -16,7 +17,7 @@ def real(number: float | None, scale: float, places: int, plus: bool = False) ->
     if number is None or number != number:
         return ""
     text = f"{number * scale:{'+' if plus else ''},.{places}f}"
-    return text.replace("-", "\u2212")
+    return Figure(text.replace("-", "\u2212"))
 
 
 def grades_on(account: PageContents, ledger: Ledger) -> dict[str, Grades]:

@@ -9,6 +9,7 @@ import plantbal
 from plantbal.build import UNKNOWN, build_of
 from plantbal.page.statement import PageContents
 from plantbal.page.verdict import count_of
+from plantbal.sentence import Day, Sentence
 
 
 @dataclass(frozen=True, slots=True)
@@ -46,8 +47,8 @@ def days_text(days: tuple[str, str] | None) -> str:
     """Return the days of a period."""
     if days is None:
         return ""
-    first, last = days
-    return first if first == last else f"{first} to {last}"
+    first, last = map(Day, days)
+    return first if first == last else Sentence("{first} to {last}", first=first, last=last)
 
 
 def period_text(account: PageContents) -> str:

@@ -23,9 +23,10 @@ from plantbal.page.account import NO_BREAK
 from plantbal.page.statement import PageContents, Statement
 from plantbal.page.summed import SummedPart, SummedReading, summed_of_book, summed_part
 from plantbal.volumes.factor import OWN_TABLE
+from plantbal.sentence import Figure, Sentence, phrase
 from plantbal.volumes.trail import HEADS, Trail
 
-_KINDS = {"dip": "dip of", "reading": "reading of", "transfer": "ticket of"}
+_KINDS = {"dip": "dip of {name}", "reading": "reading of {name}", "transfer": "ticket of {name}"}
 
 
 @dataclass(frozen=True, slots=True)
@@ -49,42 +50,49 @@ class MeasuredFact:
     @property
     def what(self) -> str:
         """What it is, and of what."""
-        return f"{_KINDS[self.fact.kind]} {self.fact.of}"
+        return Sentence(_KINDS[self.fact.kind], name=self.fact.of)
 
     @property
     def measured(self) -> list[str]:
         """What was measured, each with its standard deviation."""
-        said = [self._said("level", "level", "mm"), self._said("free water", "water", "mm")]
+        said = [
+            self._said("level {figure}", "level", "mm"),
+            self._said("free water {figure}", "water", "mm"),
+        ]
         if not self._has("level"):
-            said.append(self._said("volume", "volume", "m³"))
-        said.append(self._said("temperature", "temperature", "°C"))
+            said.append(self._said("volume {figure}", "volume", "m³"))
+        said.append(self._said("temperature {figure}", "temperature", "°C"))
         at, by = self._text("density_at"), self._text("density_by")
-        density = self._said("density", "density", "kg/m³")
-        density += f" at {at} °C" if at and density else ""
-        said.append(density + (f", by {by}" if by and density else ""))
-        return [each for each in said if each]
+        density = self._said("density {figure}", "density", "kg/m³")
+        if at and density:
+            density = Sentence("{density} at {at} °C", density=density, at=at)
+        if by and density:
+            density = Sentence("{density}, by {by}", density=density, by=phrase(str(by)))
+        return [each for each in [*said, density] if each]
 
     @property
     def applied(self) -> list[str]:
         """What was applied to it: volumes by tables, the density at 15 degrees, factor and roof."""
-        said = []
+        said: list[str] = []
         if self._has("level"):
-            said.append(f"{self._text('volume')} m³ at the level, by the tank's table")
+            form = "{volume} m³ at the level, by the tank's table"
+            said.append(Sentence(form, volume=self._text("volume")))
         if self._counts("water_volume"):
-            said.append(f"less {self._text('water_volume')} m³ of water")
+            said.append(Sentence("less {volume} m³ of water", volume=self._text("water_volume")))
         if self._has("density_table"):
-            by = self._by("density_table")
-            said.append(f"{self._text('density_15')} kg/m³ at 15 °C, by {by}")
+            words = {"density": self._text("density_15"), "table": self._by("density_table")}
+            said.append(Sentence("{density} kg/m³ at 15 °C, by {table}", **words))
         if self._has("factor_table"):
-            said.append(f"factor {self._text('factor')}, by {self._by('factor_table')}")
+            words = {"factor": self._text("factor"), "table": self._by("factor_table")}
+            said.append(Sentence("factor {factor}, by {table}", **words))
         if self._counts("roof"):
-            said.append(f"less the roof, {self._said('', 'roof', 'kg')}")
+            said.append(self._said("less the roof, {figure}", "roof", "kg"))
         return said
 
     @property
     def formula(self) -> str:
         """The mass in kilograms as a product that can be calculated again."""
-        volume = self._text("volume")
+        volume: str = self._text("volume")
         if self._counts("water_volume"):
             volume = f"({volume} − {self._text('water_volume')})"
         product = f"{volume} × {self._text('density_15')}"
@@ -93,17 +101,17 @@ class MeasuredFact:
         if self._counts("roof"):
             product += f" − {self._text('roof')}"
         kilograms = Decimal(self.trail.figures["grams"]) / 1000
-        return f"{product} = {kilograms:,f} kg"
+        return Figure(f"{product} = {kilograms:,f} kg")
 
     @property
     def deviation(self) -> str:
         """The standard deviation of what is booked, in tonnes."""
-        return tonnes_text(round(sqrt(self.fact.variance)))
+        return Figure(tonnes_text(round(sqrt(self.fact.variance))))
 
     @property
     def booked(self) -> str:
         """What is booked, in tonnes."""
-        return tonnes_text(int(self.trail.figures["booked"]))
+        return Figure(tonnes_text(int(self.trail.figures["booked"])))
 
     @property
     def source(self) -> str:
@@ -116,15 +124,16 @@ class MeasuredFact:
     def _text(self, head: str) -> str:
         """Return a figure with a comma between thousands; empty without one."""
         text = self.trail.figures.get(head, "")
-        return f"{Decimal(text):,f}" if re.fullmatch(r"-?[0-9]+(\.[0-9]+)?", text) else text
+        is_figure = re.fullmatch(r"-?[0-9]+(\.[0-9]+)?", text) is not None
+        return Figure(f"{Decimal(text):,f}") if is_figure else text
 
-    def _said(self, what: str, head: str, unit: str) -> str:
+    def _said(self, form: str, head: str, unit: str) -> str:
         """Return a figure with its unit and its standard deviation; empty without one."""
         if not self._has(head):
             return ""
         sd = self._text(f"{head}_sd")
         figure = [self._text(head), unit, *(("±", sd) if sd else ())]
-        return f"{what} {NO_BREAK.join(figure)}".strip()
+        return Sentence(form, figure=Figure(NO_BREAK.join(figure)))
 
     def _counts(self, head: str) -> bool:
         """Say whether there is such a figure, and it isn't 0."""
@@ -133,7 +142,9 @@ class MeasuredFact:
     def _by(self, head: str) -> str:
         """Return the table of a figure: one of the petroleum tables, or the product's own."""
         table = self._text(head)
-        return "the product's own factors" if table == OWN_TABLE else f"table {table}"
+        if table == OWN_TABLE:
+            return phrase("the product's own factors")
+        return Sentence("table {table}", table=str(table))
 
 
 @dataclass(frozen=True)

@@ -116,11 +116,17 @@ def fact_text(fact: Fact | None, ledger: Ledger | None) -> str:
     """Return the values of a fact."""
     if fact is None:
         return ""
-    deviation = f" ± {tonnes_text(round(sqrt(fact.variance)))} t"
+    deviation = tonnes(round(sqrt(fact.variance)))
     if fact.kind != "dip":
-        return f"{tonnes_text(fact.grams)} t{deviation}"
-    level = f"{fact.mm:,} mm at {fact.density / 1e6:.3f} t/m³"
-    return f"{level}{deviation}" + (f" ({tonnes(ledger.state.content(fact))} t)" if ledger else "")
+        form = "{amount} t ± {deviation} t"
+        return Sentence(form, amount=tonnes(fact.grams), deviation=deviation)
+    form = "{level:,} mm at {density:.3f} t/m³ ± {deviation} t"
+    density = fact.density / 1e6
+    held = Sentence(form, level=fact.mm, density=density, deviation=deviation)
+    if ledger is None:
+        return held
+    form = "{held} ({content} t)"
+    return Sentence(form, held=held, content=tonnes(ledger.state.content(fact)))
 
 
 def fact_days(fact: Fact) -> str:
@@ -259,7 +265,7 @@ def environment() -> Environment:
         statistic=statistic,
         critical=critical,
         by_name=by_name,
-        spark=spark,
+        spark=lambda statement: spark(statement, spoken.shown),
         real=real,
         grade_unit=_grade_unit,
         estimated=gates.estimates_said,

@@ -2,7 +2,10 @@
 
 from __future__ import annotations
 
+from collections.abc import Callable
 from typing import TYPE_CHECKING, Any
+
+from plantbal.sentence import Sentence
 
 if TYPE_CHECKING:
     from plantbal.page.statement import Statement
@@ -14,11 +17,18 @@ FAR = 2.0
 MOST_BARS = 75
 
 
-def spark(statement: Statement) -> Any:
+def spark(statement: Statement, said: Callable[[str], Any] = str) -> Any:
     """Return the adjustments of a period's meters in standard deviations as a small SVG.
 
     Each meter is a bar, up or down, in the order of the report; beyond two it is red. Of more than
     75 meters those that were adjusted most are shown.
+
+    Parameters
+    ----------
+    statement : Statement
+        The statement of the period.
+    said : callable
+        Says a sentence in the language of the page.
     """
     from markupsafe import Markup, escape
 
@@ -31,7 +41,8 @@ def spark(statement: Statement) -> Any:
         least = sorted((abs(size) for _, size in bars), reverse=True)[MOST_BARS - 1]
         bars = [(name, size) for name, size in bars if abs(size) >= least][:MOST_BARS]
     name, size = max(bars, key=lambda bar: abs(bar[1]))
-    label = escape(f"the greatest is {name}, {size:+.2f}")
+    form = "the greatest is {name}, {size:+.2f}"
+    label = escape(said(Sentence(form, name=name, size=size)))
     middle, step = HEIGHT / 2, WIDTH / (len(bars) + 1)
     scale = (middle - 1) / MOST
     paths = {"": "", "far": ""}

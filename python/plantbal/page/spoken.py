@@ -15,6 +15,8 @@ from plantbal.sentence import (
     Filler,
     Joined,
     Language,
+    Moment,
+    Phrase,
     Sentence,
     said_in,
 )
@@ -27,7 +29,7 @@ MOST_LETTERS = 1_000
 # A day within a sentence of another language: as a session writes it, and as the language does.
 _BEGIN, _MIDDLE, _END = "\ue000", "\ue001", "\ue002"
 _MARKED = re.compile(f"{_BEGIN}([^{_MIDDLE}]*){_MIDDLE}([^{_END}]*){_END}")
-_SAYABLE = (Sentence, Joined, Capital, Figure, Day)
+_SAYABLE = (Sentence, Joined, Capital, Figure, Day, Moment, Phrase)
 
 
 class _Marking:
@@ -134,6 +136,7 @@ class SpokenPage:
             "words": self.worded,
             "day_spans": self.day_spans,
             "some": self.some,
+            "said": self.shown,
             "certificate": self.certificate,
         }
 

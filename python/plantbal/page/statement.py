@@ -12,6 +12,7 @@ from plantbal.model.facts import Edit as Change
 from plantbal.model.ledger import Ledger, Seen
 from plantbal.page.verdict import Verdict, names_of
 from plantbal.report.blocks import Block
+from plantbal.sentence import Sentence, counted
 
 if TYPE_CHECKING:
     from plantbal.balance.grades import Grades
@@ -302,11 +303,12 @@ class PageContents:
     def to_look_at(self) -> str:
         """Which of several periods need a look, as a sentence."""
         names = [each.period for each in self.statements if each.verdict.level in ("look", "bad")]
-        total = f"{len(self.statements):,}"
+        total = len(self.statements)
         if not names:
-            return f"None of the {total} needs a look."
-        need = "needs" if len(names) == 1 else "need"
-        return f"{len(names):,} of {total} {need} a look: {names_of(names)}."
+            return Sentence("None of the {total:,} needs a look.", total=total)
+        one = "{count:,} of {total:,} needs a look: {names}."
+        many = "{count:,} of {total:,} need a look: {names}."
+        return counted(len(names), one, many, total=total, names=names_of(names))
 
     @property
     def meters(self) -> list[StreamLine]:

@@ -14,6 +14,7 @@ from plantbal import limits
 from plantbal.amounts import tonnes_text
 from plantbal.audit.sums import sums_of_book
 from plantbal.model.facts import Fact
+from plantbal.sentence import Figure, Sentence
 from plantbal.workbook.summed import HEADS, SummedBy, SummedFact
 
 SHEET = ("period", *HEADS)
@@ -37,7 +38,7 @@ class SummedReading:
     @property
     def what(self) -> str:
         """What it is, and of what."""
-        return f"{self.fact.kind} of {self.fact.of}"
+        return Sentence("reading of {name}", name=self.fact.of)
 
     @property
     def cells(self) -> str:
@@ -49,17 +50,21 @@ class SummedReading:
         """How many figures there are for the hours of the day, and which are missing."""
         found = self.found
         if found.by == SummedBy.COUNTER.value:
-            return f"a counter, {found.count} figures in {found.hours} hours"
-        said = f"{found.count} of {found.hours} hours"
+            form = "a counter, {count} figures in {hours} hours"
+            return Sentence(form, count=found.count, hours=found.hours)
+        form = "{count} of {day} hours"
         if found.by == SummedBy.HOURS_ONE_TWICE.value:
-            said = f"{found.count} figures of {found.hours} hours, one of them of two hours"
-        missing = found.missing.split()
-        return f"{said}; taken for 0: {', '.join(missing)}" if missing else said
+            form = "{count} figures of {day} hours, one of them of two hours"
+        said = Sentence(form, count=found.count, day=found.hours)
+        missing = ", ".join(found.missing.split())
+        return (
+            Sentence("{said}; taken for 0: {hours}", said=said, hours=missing) if missing else said
+        )
 
     @property
     def figure(self) -> str:
         """What they come to, in the unit of the sheet."""
-        return f"{self.found.figure} {self.found.unit}"
+        return Figure(f"{self.found.figure} {self.found.unit}")
 
     @property
     def wrong(self) -> str:
@@ -69,12 +74,12 @@ class SummedReading:
     @property
     def booked(self) -> str:
         """What is booked, in tonnes."""
-        return tonnes_text(self.fact.grams)
+        return Figure(tonnes_text(self.fact.grams))
 
     @property
     def deviation(self) -> str:
         """The standard deviation of what is booked, in tonnes."""
-        return tonnes_text(round(sqrt(self.fact.variance)))
+        return Figure(tonnes_text(round(sqrt(self.fact.variance))))
 
 
 @dataclass(frozen=True)

@@ -163,7 +163,9 @@ def verdict_of(
     """
     if not block.ended or block.solved is None:
         return Verdict(
-            "bad", "The report is cut off", ["Its last rows are missing: run the session again."]
+            "bad",
+            phrase("The report is cut off"),
+            [phrase("Its last rows are missing: run the session again.")],
         )
     level, headline = _headline(block, lost.lacking, suspects, taken)
     reasons = lost.reasons
@@ -266,7 +268,7 @@ def _headline(
     assert block.solved is not None
     verdict = block.whole["verdict"] if block.whole else ""
     if block.solved["state"] != "converged":
-        return "bad", "Not converged: not to be booked"
+        return "bad", phrase("Not converged: not to be booked")
     if lacking:
         one, many = "1 row refused: not to be booked", "{count:,} rows refused: not to be booked"
         return "bad", counted(lacking, one, many)
@@ -275,15 +277,15 @@ def _headline(
             names = one_of_said(suspects[0], block, MOST_IN_HEADLINE)
             return "look", Sentence("Look at {names}", names=names)
         if block.component:
-            return "look", "Rejected: look at the grades"
-        return "look", "Rejected: look at the meters"
+            return "look", phrase("Rejected: look at the grades")
+        return "look", phrase("Rejected: look at the meters")
     if verdict == "accept" and block.taken:
         return "look", Sentence("Accepted without {names}", names=names_of(_taken(block, taken)))
     if verdict == "accept":
-        return "good", "Accepted"
+        return "good", phrase("Accepted")
     if verdict == "undecided":
-        return "look", "The global test is undecided"
-    return "plain", "Not tested"
+        return "look", phrase("The global test is undecided")
+    return "plain", phrase("Not tested")
 
 
 def _taken(block: Block, taken: Sequence[Set]) -> list[str]:

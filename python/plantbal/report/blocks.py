@@ -110,10 +110,17 @@ class Subject:
         """What is asked for: ``report``, ``window`` or ``balance``."""
         return "balance" if self.component else "window" if self.last else "report"
 
-    def __str__(self) -> str:
+    @property
+    def said(self) -> str:
+        """It in words: ``may``, ``cu in may`` of a balance, ``may to june`` of a window."""
         if self.component:
-            return f"{self.component} in {self.period}"
-        return f"{self.period} to {self.last}" if self.last else self.period
+            return Sentence("{component} in {period}", component=self.component, period=self.period)
+        if self.last:
+            return Sentence("{first} to {last}", first=self.period, last=self.last)
+        return self.period
+
+    def __str__(self) -> str:
+        return str(self.said)
 
 
 @dataclass
@@ -166,7 +173,7 @@ class Block:
     @property
     def subject(self) -> str:
         """What it is of: ``may``, ``cu in may`` of a balance, ``may to june`` of a window."""
-        return str(self.asked)
+        return self.asked.said
 
     @property
     def asked(self) -> Subject:
@@ -201,7 +208,9 @@ class Block:
     @property
     def title(self) -> str:
         """What it is of, and the round if it isn't the first."""
-        return f"{self.subject}, round {self.round}" if self.round else self.subject
+        if not self.round:
+            return self.subject
+        return Sentence("{subject}, round {round}", subject=self.subject, round=self.round)
 
     @property
     def verdict(self) -> str:

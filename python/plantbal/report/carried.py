@@ -7,6 +7,7 @@ from dataclasses import dataclass
 
 from plantbal.amounts import tonnes_text
 from plantbal.report.blocks import Block, Values, last_blocks
+from plantbal.sentence import Figure, Sentence, phrase
 from plantbal.study.uncertainty import uncertainty_of
 
 # By how many of its standard deviations a flow is beyond what can be before that is said: the
@@ -33,7 +34,12 @@ class Impossible:
     said: str
 
     def __str__(self) -> str:
-        return f"{self.subject}: {self.said}"
+        return str(self.sentence)
+
+    @property
+    def sentence(self) -> str:
+        """The same as one sentence."""
+        return Sentence("{subject}: {said}", subject=self.subject, said=self.said)
 
 
 def impossible(blocks: Iterable[Block]) -> list[Impossible]:
@@ -75,8 +81,11 @@ def _of_balance(balance: Block, report: Block) -> Iterator[Impossible]:
         name = row["name"]
         if why := _fault(row, flow, round(_MOST_DEVIATIONS * deviation[name])):
             carried, whole = tonnes_text(row["flow"]), tonnes_text(flow["flow"])
-            what = f"{name} carries {carried} t of {balance.component} in {whole} t"
-            said = f"{what}, {why}: look at the assays and meters around it"
+            form = "{name} carries {carried} t of {component} in {whole} t"
+            of = {"name": name, "component": balance.component}
+            what = Sentence(form, carried=Figure(carried), whole=Figure(whole), **of)
+            form = "{what}, {why}: look at the assays and meters around it"
+            said = Sentence(form, what=what, why=phrase(why))
             yield Impossible(balance.subject, name, said)
 
 
@@ -89,5 +98,5 @@ def _fault(carried: Values, flow: Values, error: int = 0) -> str:
     if least < 0:
         return ""  # nobody knows which way it flows
     if high < -error:
-        return "against the direction of the stream"
-    return "more than its whole mass" if low > most + error else ""
+        return phrase("against the direction of the stream")
+    return phrase("more than its whole mass") if low > most + error else ""

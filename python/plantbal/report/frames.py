@@ -119,7 +119,7 @@ def _front(blocks: Sequence[Block], count: list[int]) -> dict[str, Any]:
     """Return block, period and round, each as many times as its block has rows."""
     return {
         "block": repeat([block.number for block in blocks], count),
-        "period": repeat([block.subject for block in blocks], count),
+        "period": repeat([str(block.subject) for block in blocks], count),
         "round": repeat([block.round for block in blocks], count),
     }
 
@@ -143,7 +143,9 @@ def frame_of_blocks(blocks: Sequence[Block]) -> pandas.DataFrame:
     return pandas.DataFrame(
         {
             "block": range(len(blocks)),
-            **_columns("report", [{**block.head, "period": block.subject} for block in blocks]),
+            **_columns(
+                "report", [{**block.head, "period": str(block.subject)} for block in blocks]
+            ),
             **_columns("solved", [block.solved or none for block in blocks]),
             **_columns("global", [block.whole or none for block in blocks]),
             "component": [block.component for block in blocks],

@@ -17,6 +17,7 @@ from plantbal.inert import inert_frame
 from plantbal.report.blocks import Block
 from plantbal.report.chart import ENDINGS
 from plantbal.report.output import Output, read_whole
+from plantbal.sentence import Sentence
 from plantbal.statuses import ExitStatus
 from plantbal.study.recovery import (
     ComponentBalance,
@@ -64,17 +65,24 @@ examples:
 """
 
 
+# Where a stream goes that doesn't leave.
+WAYS = ("in", "within")
+
+
 def lines_of_shares(shares: Iterable[Share]) -> list[dict[str, str]]:
     """Return rows as a person reads them."""
     lines = []
     for each in shares:
         known = each.way != "in" and each.share_sd == each.share_sd
+        stream = each.stream
+        if each.way == "gain":
+            stream = Sentence("gain of {name}", name=stream)
         lines.append(
             {
                 "component": each.component,
                 "period": each.period or "all",
-                "stream": f"gain of {each.stream}" if each.way == "gain" else each.stream,
-                "way": each.way if each.way in ("in", "within") else "out",
+                "stream": stream,
+                "way": each.way if each.way in WAYS else "out",
                 "t": "" if each.grams is None else tonnes_text(each.grams),
                 "± t": "" if each.sd != each.sd else f"{each.sd / 1e6:,.3f}",
                 "grade": "" if each.grade != each.grade else f"{each.grade:.4%}",

@@ -15,6 +15,7 @@ from dataclasses import dataclass, fields, replace
 from fractions import Fraction
 from pathlib import Path
 
+from plantbal.sentence import Sentence
 from plantbal.workbook.sheets import Cell, letters
 from plantbal.workbook.units import GRAMS
 
@@ -113,11 +114,13 @@ class SummedFact:
         if self.by == SummedBy.HOURS_ONE_TWICE.value:
             there += 1
         if self.by != SummedBy.COUNTER.value and there != self.hours:
-            return f"{self.count} figures aren't those of {self.hours} hours"
+            form = "{count} figures aren't those of {hours} hours"
+            return Sentence(form, count=self.count, hours=self.hours)
         if self.unit in GRAMS:
             found = round(Fraction(self.figure) * GRAMS[self.unit])
             if found != grams:
-                return f"the session has {grams:,} g, and this is {found:,} g"
+                form = "the session has {booked:,} g, and this is {found:,} g"
+                return Sentence(form, booked=grams, found=found)
         return ""
 
 

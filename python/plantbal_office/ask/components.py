@@ -3,8 +3,10 @@
 from __future__ import annotations
 
 from plantbal.report.output import Output
+from plantbal.sentence import Joined, phrase
 from plantbal.study.recovering import lines_of_shares
 from plantbal.study.recovery import ComponentBalance, balances_of, mass_of
+from plantbal_office.sentences import said
 
 _FIGURES = ("t", "± t", "grade", "± of it", "in sd", "share", "±")
 
@@ -16,8 +18,8 @@ def component_rows(output: Output) -> list[tuple[str, list[dict[str, object]]]]:
         lines = lines_of_shares(ComponentBalance(block, mass=mass_of(output, block)).shares())
         rows: list[dict[str, object]] = [
             {
-                "stream": line["stream"],
-                "way": line["way"],
+                "stream": said(Joined("", [line["stream"]])),
+                "way": said(phrase(line["way"])),
                 "figures": [line[name] for name in _FIGURES],
             }
             for line in lines

@@ -25,20 +25,22 @@ from plantbal.balance.worth import (
     known_after,
     spread_changes,
 )
-from plantbal.book.difference import Difference
+from plantbal.book.difference import NOW, POSTED, Difference
 from plantbal.book.looking import BookMonth
 from plantbal.book.posting import NotPosted
 from plantbal.book.results import ReportState
 from plantbal.faults import Fault
 from plantbal.gates import Gate, about, said_of_stop
 from plantbal.report.output import Output, parse_report
+from plantbal.sentence import phrase
 from plantbal.session import Session
 from plantbal.study.advice import Advice, advise
 from plantbal_office.ask.window import window_shown
 from plantbal_office.deeds.once import once
+from plantbal_office.enter.typed import typing_locale
 from plantbal_office.look.views import month_in_address
 from plantbal_office.plants.models import Plant
-from plantbal_office.sentences import said
+from plantbal_office.sentences import figure, said
 from plantbal_office.shelf import KEPT, book_contents, book_of, plain_book, run_settings
 
 MOST_CHARTED = 36
@@ -79,15 +81,16 @@ def difference_page(request: HttpRequest, period: str) -> HttpResponse:
         raise Fault(_("these aren't two states"), remedy=_("choose them from the list"))
     version = book_contents(request.plant).version
     found = plain_book(request.plant).difference(period, *states)
-    choices = [f"{number} now" for number in range(1, month.earlier + 1)]
-    choices += [f"{n} {n + 1}" for n in range(1, month.earlier)] + ["posted now"]
+    pairs = [(str(number), NOW) for number in range(1, month.earlier + 1)]
+    pairs += [(str(n), str(n + 1)) for n in range(1, month.earlier)] + [(POSTED, NOW)]
     answer = {
         "month": month,
         "found": found,
         "postings": postings_of(found.changes),
-        "causes": list(dict.fromkeys(str(each) for each in found.causes)),
+        "causes": [said(each) for each in dict.fromkeys(each.sentence for each in found.causes)],
         "between": words,
-        "choices": choices,
+        "sides": [said(phrase(each)) for each in found.sides],
+        "choices": [(" ".join(each), " – ".join(said(phrase(x)) for x in each)) for each in pairs],
         "version": version,
         "section": "ask",
         "is_old": month.report is ReportState.OLDER,
@@ -178,7 +181,7 @@ class WhatIfLine:
 def what_if_line(change: SpreadChange) -> WhatIfLine:
     """Return a line of a what-if."""
     factor, unit = (100.0, "%") if change.component else (1.0, "t")
-    name = f"{change.component} in {change.stream}" if change.component else change.stream
+    name = said(Instrument(change.stream, change.component).said)
     known = [kind is not Class.UNOBSERVABLE for kind in (change.kind_before, change.kind_after)]
     return WhatIfLine(
         name,
@@ -207,7 +210,7 @@ def whatif(request: HttpRequest, period: str) -> HttpResponse:
     state = month_plan(request.plant, month)
     words = {"month": month, "form": form, "section": "ask"}
     words["streams"] = [flow.name for flow in state.problem.flows]
-    words["there"] = sorted(each.said for each in state.here)
+    words["there"] = [said(each.said) for each in sorted(state.here, key=lambda each: each.said)]
     if form.is_bound and form.is_valid():
         try:
             words["rows"] = _whatif(state, form.cleaned_data["add"], form.cleaned_data["lose"])
@@ -223,9 +226,10 @@ def _whatif(state: PeriodState, add: str, lose: str) -> list[WhatIfLine]:
         name, _equals, error = (part.strip() for part in text.partition("="))
         if not error:
             name, _space, error = text.partition(" ")
-        found = instrument_named(f"{name}={error.strip()}", state)
+        found = instrument_named(f"{name}={error.strip()}", state, typing_locale())
         if not found.deviation:
-            raise Fault(_("there is no error of {name}").format(name=name), remedy="FI-7 = 1.5 %")
+            remedy = f"FI-7 = {figure('1.5')} %"
+            raise Fault(_("there is no error of {name}").format(name=name), remedy=remedy)
         more.append(found)
     fewer = [instrument_named(each.strip(), state) for each in lose.split(";") if each.strip()]
     before, after = state.with_(state.here), known_after(state, more, fewer)

@@ -4,18 +4,26 @@ from __future__ import annotations
 
 import ast
 import re
-from collections.abc import Iterator
+from collections.abc import Iterator, Mapping
 from pathlib import Path
 
 from gate.documentation.messages import OTHER, UNREAD, WORDS
+from plantbal.accounts.account import Level
 from plantbal.accounts.entries import AccountLine
 from plantbal.accounts.month import Basis
+from plantbal.accounts.posting import PROCESS
+from plantbal.accounts.sheet import NO_ACCOUNT, NOBODY
 from plantbal.accounts.stock import Opened, Why
+from plantbal.book import causes
+from plantbal.book.difference import NOW, POSTED
 from plantbal.gates import Gate, about
 from plantbal.lint import lacking
 from plantbal.model import remedies, words
+from plantbal.page import measured
 from plantbal.page.drawing import KINDS
 from plantbal.page.verdict import STOPS
+from plantbal.study.recovering import WAYS
+from plantbal.volumes.standard import DensityInstrument
 from plantbal.workbook.mapping.words import LANGUAGES
 from plantbal.workbook.sheetkinds import SHEETS
 from plantbal_office.causes import GridCause, GridRemedy
@@ -106,13 +114,50 @@ def fields(form: str) -> list[str]:
 
 
 def of_calls(text: str) -> Iterator[str]:
-    """Give the forms that stand in a module where sentences are made of them."""
-    for node in ast.walk(ast.parse(text)):
+    """Give the forms that stand in a module where sentences are made of them, or in a name for them."""
+    tree = ast.parse(text)
+    yield from _of_scope(tree, {})
+    for node in ast.walk(tree):
+        if isinstance(node, ast.FunctionDef):
+            yield from _of_scope(node, _named(tree))
+
+
+def _of_scope(scope: ast.AST, outer: Mapping[str, list[str]]) -> Iterator[str]:
+    """Give the forms of the sentences that a function or a module makes."""
+    named = {**outer, **_named(scope)}
+    for node in ast.walk(scope):
         if isinstance(node, ast.Call) and isinstance(node.func, ast.Name):
             for at in MAKERS.get(node.func.id, ()):
                 for inner in ast.walk(node.args[at]) if at < len(node.args) else ():
-                    if isinstance(inner, ast.Constant) and isinstance(inner.value, str):
-                        yield inner.value
+                    yield from _texts(inner)
+                    if isinstance(inner, ast.Name):
+                        yield from named.get(inner.id, ())
+
+
+def _named(scope: ast.AST) -> dict[str, list[str]]:
+    """Return the texts that names are given in a function or a module."""
+    found: dict[str, list[str]] = {}
+    for node in ast.walk(scope):
+        if isinstance(node, ast.Assign):
+            names = [each.id for each in ast.walk(node.targets[0]) if isinstance(each, ast.Name)]
+            texts = list(_chosen(node.value))
+            for name in names:
+                found.setdefault(name, []).extend(texts)
+    return found
+
+
+def _chosen(node: ast.AST) -> Iterator[str]:
+    """Give the texts of several words, or with values, of which one is chosen."""
+    if isinstance(node, ast.IfExp | ast.Tuple):
+        for inner in (node.body, node.orelse) if isinstance(node, ast.IfExp) else node.elts:
+            yield from _chosen(inner)
+    yield from (text for text in _texts(node) if WORDS.search(text) or _FILLED.search(text))
+
+
+def _texts(node: ast.AST) -> Iterator[str]:
+    """Give the text of a constant."""
+    if isinstance(node, ast.Constant) and isinstance(node.value, str):
+        yield node.value
 
 
 def of_module(node: ast.AST) -> Iterator[str]:
@@ -163,7 +208,11 @@ def of_tables() -> Iterator[str]:
         yield str(cause.value)
     for line in AccountLine:
         yield from (line.value, line.value.capitalize())
-    yield from (each.value for table in (Basis, Opened, Why) for each in table)
+    yield from (
+        each.value for table in (Basis, Opened, Why, Level, DensityInstrument) for each in table
+    )
+    yield from (*causes._WORDS.values(), PROCESS, NOBODY, NO_ACCOUNT, POSTED, NOW)
+    yield from (*measured._KINDS.values(), *WAYS, "out")
     yield from ("unaccounted loss", "unaccounted gain")
     for name, look in KINDS.items():
         yield from (name, look.about)
