@@ -216,7 +216,7 @@ def _row_of_version(record: tuple[str, ...], version: int, stored: bool) -> Row 
     return Refused(reason, "kind", word)
 
 
-class Form:
+class FixedForm:
     """The form of a row of a fixed number of fields: one pattern of them, ranges and dates."""
 
     def __init__(self, row: Row) -> None:
@@ -252,14 +252,14 @@ class Form:
 
 
 # The forms of rows by their identity: the rows of the schema are made once.
-_FORMS_OF: dict[int, Form] = {}
+_FORMS_OF: dict[int, FixedForm] = {}
 
 
-def form_of(row: Row) -> Form:
+def fixed_form(row: Row) -> FixedForm:
     """Return the form of a row that has no tail."""
     found = _FORMS_OF.get(id(row))
     if found is None:
-        found = _FORMS_OF[id(row)] = Form(row)
+        found = _FORMS_OF[id(row)] = FixedForm(row)
     return found
 
 
@@ -268,7 +268,7 @@ def form_refused(row: Row, record: tuple[str, ...]) -> Refused | None:
 
     Names come first, then numbers, then dates.
     """
-    if not row.tail and form_of(row).fits(record):
+    if not row.tail and fixed_form(row).fits(record):
         return None
     worst: tuple[Reason, Column, str] | None = None
     columns = row.columns_for(len(record) - 1) if row.tail else row.columns

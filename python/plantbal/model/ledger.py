@@ -27,7 +27,7 @@ from plantbal.model.file import Rows, Step, steps
 from plantbal.model.periods import Period, Span
 from plantbal.model.plant import ENV, Stream
 from plantbal.model.refusals import Coded, Refusals
-from plantbal.model.sizes import Sizes
+from plantbal.model.sizes import AmountSizes
 from plantbal.model.state import State
 from plantbal.model.topology import Arc
 from plantbal.model.words import refusal_of
@@ -443,9 +443,9 @@ class Ledger:
         return found
 
     @cached_property
-    def sizes(self) -> dict[str, Sizes]:
+    def sizes(self) -> dict[str, AmountSizes]:
         """How large the same are, without their signs."""
-        return {stream: Sizes.of(facts) for stream, facts in self.amounts.items()}
+        return {stream: AmountSizes.of(facts) for stream, facts in self.amounts.items()}
 
     @cached_property
     def dips(self) -> list[Fact]:

@@ -16,7 +16,7 @@ from typing import TYPE_CHECKING
 from plantbal.model.booking import FACT_RULES, Amends, BooksFact, FactRule, LooksAt, Strikes
 from plantbal.model.causes import Refused
 from plantbal.model.facts import At, Fact
-from plantbal.model.forms import ROWS, day_of, form_of
+from plantbal.model.forms import ROWS, day_of, fixed_form
 
 if TYPE_CHECKING:
     from plantbal.model.state import State
@@ -104,7 +104,7 @@ _READ: dict[str, _Read] = {
 }
 # Of a kind and so many fields: whether a row is of the form, and what it says.
 _FORMS: dict[tuple[str, int], tuple[Callable[[tuple[str, ...]], bool], _Read]] = {
-    (kind, len(row.columns) + 1): (form_of(row).fits, read)
+    (kind, len(row.columns) + 1): (fixed_form(row).fits, read)
     for kind, read in _READ.items()
     for row in ROWS[kind]
 }

@@ -13,7 +13,7 @@ FEWEST_OF_A_MEDIAN = 3
 _GRAMS: Callable[[Fact], int] = attrgetter("grams")
 
 
-class Sizes(NamedTuple):
+class AmountSizes(NamedTuple):
     """How large amounts are without their signs: the least that isn't 0, the median, the most.
 
     The median is that of the amounts that aren't 0, the lower one of two; 0 if too few aren't 0.
