@@ -194,27 +194,26 @@ def words_of(*, tests: bool, eliminate: int, gap: int, sweeps: int) -> list[str]
 
 @dataclass(frozen=True)
 class RunSettings:
-    """How a session is run.
+    """How a session is run; what is None nobody says: in a book it is as the last report has it.
 
     Attributes
     ----------
-    tests : bool
-        Whether tests are made.
+    tests : bool or None
+        Whether tests are made; they are if nobody says it.
     eliminate : int or None
-        The most suspects that are taken out, one in each round; None if nobody says it: in a book
-        as many as the last report of the same was made with, if tests are made, and else none.
-    gap : int
-        The greatest gap, in thousandths of a standard deviation.
-    sweeps : int
-        The most sweeps.
+        The most suspects that are taken out, one in each round; none if nobody says it.
+    gap : int or None
+        The greatest gap, in thousandths of a standard deviation; 10 if nobody says it.
+    sweeps : int or None
+        The most sweeps; 5,000 if nobody says it.
     program : str, Path or None
         The program, as `find_program` takes it.
     """
 
-    tests: bool = True
+    tests: bool | None = None
     eliminate: int | None = None
-    gap: int = 10
-    sweeps: int = 5000
+    gap: int | None = None
+    sweeps: int | None = None
     program: str | Path | None = None
 
     @property
@@ -223,6 +222,36 @@ class RunSettings:
         return self.eliminate or 0
 
     @property
+    def is_tested(self) -> bool:
+        """Whether tests are made."""
+        return self.tests is not False
+
+    @property
+    def numbers(self) -> dict[str, int]:
+        """The settings as numbers, by their names."""
+        gap = 10 if self.gap is None else self.gap
+        sweeps = 5000 if self.sweeps is None else self.sweeps
+        tests = int(self.is_tested)
+        return {"tests": tests, "eliminate": self.rounds, "gap": gap, "sweeps": sweeps}
+
+    @property
     def words(self) -> list[str]:
         """The words of such a run."""
-        return words_of(tests=self.tests, eliminate=self.rounds, gap=self.gap, sweeps=self.sweeps)
+        of = self.numbers
+        tests, rounds = bool(of["tests"]), of["eliminate"]
+        return words_of(tests=tests, eliminate=rounds, gap=of["gap"], sweeps=of["sweeps"])
+
+    def after(self, last: RunSettings) -> RunSettings:
+        """Return them with those of a last report in place of what nobody says.
+
+        Without tests nothing is taken out, and taking out is by tests.
+        """
+        tests = self.tests
+        if tests is None:
+            tests = True if self.eliminate else last.tests
+        eliminate = self.eliminate
+        if eliminate is None:
+            eliminate = 0 if tests is False else last.eliminate
+        gap = last.gap if self.gap is None else self.gap
+        sweeps = last.sweeps if self.sweeps is None else self.sweeps
+        return RunSettings(tests, eliminate, gap, sweeps, self.program)

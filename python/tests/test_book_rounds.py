@@ -15,11 +15,11 @@ from conftest import TOP, Desk, text_of
 
 from plantbal import Book, read_report, run
 from plantbal.book.forms import report_file
-from plantbal.book.rounds import OtherRounds
+from plantbal.book.rounds import OtherSettings
 from plantbal.gates import Gate
 from plantbal.program import RunSettings
 from plantbal.report.output import parse_report
-from plantbal.report.rounds import rounds_shown
+from plantbal.report.rounds import rounds_shown, settings_in
 from plantbal.workbook.options import ReadingOptions
 
 GERMAN = ReadingOptions(locale="de")
@@ -218,7 +218,114 @@ def test_a_bundle_is_of_the_close(mill: Path, say: Desk, tmp_path: Path) -> None
     session = tmp_path / "b.csv"
     said = say("audit", str(mill / report_file(JUNE)), str(session))
     assert said.status == 0, said
-    assert "--eliminate" not in archived(mill, say, tmp_path / "c.zip", "--eliminate", "0")
+
+
+def closed_bundle(mill: Path, say: Desk, tmp_path: Path) -> tuple[Path, Path]:
+    """A bundle of June, closed with a suspect out, and its session."""
+    eliminated(mill, 1)
+    Book(mill).close(JUNE, anyway=ANYWAY)
+    archived(mill, say, tmp_path / "b.zip")
+    return tmp_path / "b.zip", tmp_path / "b.csv"
+
+
+@pytest.mark.parametrize(
+    "words",
+    (["--eliminate", "0"], ["--gap", "1"], ["--sweeps", "4000"], ["--no-tests"]),
+)
+def test_a_bundle_of_a_closed_month_is_of_its_report(
+    words: list[str], mill: Path, say: Desk, tmp_path: Path
+) -> None:
+    _, session = closed_bundle(mill, say, tmp_path)
+    out = tmp_path / "c.zip"
+    given = ("archive", str(session), "--book", str(mill), "--out", str(out))
+    assert say(*given, *words).status == 1 and not out.exists()
+
+
+def test_a_page_of_a_closed_month_is_of_its_report(mill: Path, say: Desk, tmp_path: Path) -> None:
+    _, session = closed_bundle(mill, say, tmp_path)
+    words = ("page", str(session), "--run", "--seconds", "0.01", "--book", str(mill))
+    said = say(*words, "--eliminate", "0")
+    assert said.status == 1 and not said.out
+    assert "Accepted without TAILS" in say(*words).out
+
+
+def test_a_bundle_by_other_hands(
+    mill: Path, say: Desk, tmp_path: Path, monkeypatch: pytest.MonkeyPatch
+) -> None:
+    """One that wasn't refused when it was made is wrong to an audit, with the book and without."""
+    good, session = closed_bundle(mill, say, tmp_path)
+    bad = tmp_path / "c.zip"
+    with monkeypatch.context() as patch:
+        patch.setattr("plantbal.audit.archive._check_closed", lambda *given: None)
+        words = ("--eliminate", "0", "--out", str(bad))
+        say("archive", str(session), "--book", str(mill), *words)
+    for path, wrong in ((good, 0), (bad, 1)):
+        assert say("audit", str(path)).status == wrong
+        assert say("audit", str(path), "--book", str(mill)).status == wrong
+
+
+def test_a_bundle_of_facts_since_the_report(mill: Path, say: Desk, tmp_path: Path) -> None:
+    """It is refused until the report is made again; then its audit finds nothing wrong."""
+    Book(mill).close(JUNE, anyway=ANYWAY)
+    late(mill)
+    session, out = tmp_path / "s.csv", tmp_path / "s.zip"
+    session.write_text(Book(mill).session_asking(JUNE), "ascii")
+    words = ("archive", str(session), "--book", str(mill), "--out", str(out))
+    assert say(*words).status == 1 and not out.exists()
+    Book(mill).report(JUNE)
+    say(*words)
+    assert say("audit", str(out)).status == 0
+    assert say("audit", str(out), "--book", str(mill)).status == 0
+
+
+# ---- gap, sweeps and tests
+
+
+ASKED = (
+    RunSettings(gap=1),
+    RunSettings(sweeps=4000),
+    RunSettings(tests=False),
+    RunSettings(gap=3, eliminate=1),
+)
+
+
+@pytest.mark.parametrize("asked", ASKED, ids=str)
+def test_all_settings_are_carried(asked: RunSettings, mill: Path) -> None:
+    """From a report to the next, to the close, and from there on nothing else is taken."""
+    Book(mill).report(JUNE, settings=asked)
+    text = text_of(mill / report_file(JUNE))
+    shown = settings_in(text, JUNE)
+    assert shown.words == asked.words
+    assert Book(mill).report(JUNE)[0].is_new is False
+    Book(mill).close(JUNE, anyway=ANYWAY)
+    assert settings_in(text_of(mill / report_file(JUNE)), JUNE) == shown
+    before = files_of(mill)
+    with pytest.raises(OtherSettings) as fault:
+        Book(mill).report(JUNE, settings=RunSettings(True, 0, 7, 3000))
+    assert fault.value.settings == shown
+    assert files_of(mill) == before
+    assert Book(mill).report(JUNE)[0].is_new is False
+
+
+def test_what_is_said_wins() -> None:
+    last = RunSettings(False, 0, 1, 100)
+    assert RunSettings().after(last) == last
+    assert RunSettings(gap=10).after(last) == RunSettings(False, 0, 10, 100)
+    assert RunSettings(eliminate=2).after(last) == RunSettings(True, 2, 1, 100)
+    assert RunSettings(tests=False).after(RunSettings(True, 3, 1, 100)) == last
+    assert RunSettings().after(RunSettings()).words == RunSettings(True, 0, 10, 5000).words
+
+
+def test_tests_again(mill: Path, say: Desk) -> None:
+    words = ("book", "report", JUNE, "--book", str(mill))
+    say(*words, "--no-tests")
+    assert settings_in(text_of(mill / report_file(JUNE)), JUNE).tests is False
+    say(*words, "--tests")
+    assert settings_in(text_of(mill / report_file(JUNE)), JUNE).tests is True
+
+
+def test_a_text_without_a_report_shows_none() -> None:
+    assert settings_in("", "nothing") == settings_in("over,x,y\n", "over") == RunSettings()
 
 
 def test_a_bundle_of_several_periods(mill: Path, say: Desk, tmp_path: Path) -> None:
@@ -252,9 +359,9 @@ def test_a_closed_report_leaves_out_what_its_close_did(mill: Path) -> None:
     eliminated(mill, 2)
     Book(mill).close(JUNE)
     before = files_of(mill)
-    with pytest.raises(OtherRounds) as fault:
+    with pytest.raises(OtherSettings) as fault:
         Book(mill).report(JUNE, settings=RunSettings(eliminate=0))
-    assert (fault.value.period, fault.value.rounds) == (JUNE, 1)
+    assert (fault.value.period, fault.value.settings.rounds) == (JUNE, 1)
     assert files_of(mill) == before
     for rounds in (1, 3):  # the same report
         eliminated(mill, rounds)
@@ -263,7 +370,7 @@ def test_a_closed_report_leaves_out_what_its_close_did(mill: Path) -> None:
 
 def test_a_closed_report_without_an_elimination(mill: Path) -> None:
     Book(mill).close(JUNE, anyway=ANYWAY)
-    with pytest.raises(OtherRounds):
+    with pytest.raises(OtherSettings):
         eliminated(mill, 1)
     Book(mill).report(JUNE, settings=RunSettings(eliminate=0))
     assert kept(mill) == (0, [])
@@ -300,5 +407,5 @@ def test_a_late_fact_leaves_out_the_same(mill: Path) -> None:
     late(mill, "12002 t")
     made = Book(mill).report(JUNE)[0]
     assert made.is_new and kept(mill) == (1, ["TAILS"])
-    with pytest.raises(OtherRounds):
+    with pytest.raises(OtherSettings):
         Book(mill).report(JUNE, settings=RunSettings(eliminate=0))

@@ -305,6 +305,9 @@ class JudgedApprovals:
     def held(self) -> Iterator[tuple[SentenceKind, str]]:
         """Give what is found: ``good``, ``note`` or ``wrong``, and a sentence."""
         found = self.found
+        if self.is_other():
+            what = "its output isn't the report with which this closed it"
+            yield SentenceKind.WRONG, f"{found.close.line.said()}: {what}"
         if found.close.record is None:
             yield SentenceKind.NOTE, f"{found.close.line.said()}: nobody has signed or approved it"
             return
@@ -323,6 +326,26 @@ class JudgedApprovals:
         signs = any(each.signed is not None for each in found.acts.values())
         if signs and not self.is_given:
             yield SentenceKind.NOTE, _OWN_LIST
+
+    def is_other(self) -> bool:
+        """Say whether the output isn't the report of the close, though it is of the same rows.
+
+        That is known if the session asks for it as a book does, and has booked nothing since.
+        """
+        line = self.found.close.line
+        kept = line.files.get(report_file(line.of))
+        rows = next((each for name, each in line.files.items() if is_year_file(name)), None)
+        if kept is None or rows is None or rows.size is None or Kept.of(self.output) == kept:
+            return False
+        begin, asked = self.session[: rows.size], self.session[rows.size :].splitlines()
+        own, name = hashlib.sha256(begin).hexdigest() == rows.digest, line.of.encode("ascii")
+        ends = asked[:1] == [b"report," + name] and asked[-1:] == [b"history," + name]
+        between = asked[1:-1]
+        return (
+            own
+            and ends
+            and all(row.startswith(b"component,") and row.endswith(b"," + name) for row in between)
+        )
 
     def _good(self) -> SentenceKind:
         """Return what a name is that a list of keys bears out: a note, if that is the bundle's own."""

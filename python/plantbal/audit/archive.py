@@ -31,14 +31,14 @@ from plantbal.audit.carried import carried_files
 from plantbal.audit.signed import add_signing, sign_bundle
 from plantbal.audit.summary import summary_text
 from plantbal.build import build_of
-from plantbal.commands.options import AS_REPORTED, add_run, add_timeout
+from plantbal.commands.options import AS_REPORTED, add_run, add_timeout, settings_of
 from plantbal.commands.progress import Progress
 from plantbal.faults import Fault, Place, ProgramFault, WordsFault, read_bytes
 from plantbal.limits import SESSION_BYTES
 from plantbal.model.forms import day_text
 from plantbal.model.ledger import Ledger
 from plantbal.newfile import write_new
-from plantbal.program import call, find_program, words_of
+from plantbal.program import RunSettings, call, find_program
 from plantbal.report.output import Output, parse_report
 from plantbal.statuses import looks
 
@@ -237,13 +237,22 @@ def _fits(files: dict[str, bytes]) -> dict[str, bytes]:
     return files
 
 
-def _rounds(options: argparse.Namespace, session: bytes) -> int:
-    """Return how many suspects are taken out: of a book's session as many as of its reports."""
-    if options.eliminate is not None or options.book is None or options.no_tests:
-        return options.eliminate or 0
-    from plantbal.book.rounds import rounds_asked
+def _settings(options: argparse.Namespace, session: bytes) -> RunSettings:
+    """Return how the session is run: one of a book, as far as nobody says it, as its reports."""
+    given = settings_of(options)
+    if options.book is None:
+        return given
+    from plantbal.book.rounds import settings_asked
 
-    return rounds_asked(options.book, session)
+    return settings_asked(options.book, session, given)
+
+
+def _check_closed(options: argparse.Namespace, output: Output, settings: RunSettings) -> None:
+    """Refuse a bundle that has other figures of a closed period than its book."""
+    if options.book is not None:
+        from plantbal.book.rounds import check_closed
+
+        check_closed(options.book, output, settings, older=True)
 
 
 def run(options: argparse.Namespace) -> int:
@@ -255,12 +264,8 @@ def run(options: argparse.Namespace) -> int:
     made, plant = bundle_time(options.time), plant_name(options)
     source, session = read_bytes(options.session, SESSION_BYTES)
     book = named_book(options.book, session, source)
-    words = words_of(
-        tests=not options.no_tests,
-        eliminate=_rounds(options, session),
-        gap=options.gap,
-        sweeps=options.sweeps,
-    )
+    settings = _settings(options, session)
+    words = settings.words
     program = find_program(options.program)
     try:
         with Progress(options.prog, session) as progress:
@@ -272,6 +277,7 @@ def run(options: argparse.Namespace) -> int:
         return fault.ends
     require_believed(written, f"the output of {source}", program)
     output = parse_report(written.decode("utf-8"), f"the output of {source}", status)
+    _check_closed(options, output, settings)
     period = period_of(output, options.period)
     stated = Manifest(
         archive=VERSION,

@@ -70,7 +70,8 @@ def given_of_bundle(audit: Audit, path: str, options: argparse.Namespace) -> Aud
         audit.add(SentenceKind.GOOD, f"{path}: {what}, and {rest}")
     for kind, said in carried_held(path, files):
         audit.add(kind, said)
-    for kind, said in Linked(path, manifest, files[SESSION]).held(options.book, options.before):
+    linked = Linked(path, manifest, files[SESSION], files[OUTPUT])
+    for kind, said in linked.held(options.book, options.before):
         audit.add(kind, said)
     beside = Beside(path, options.signature or f"{path}.sig")
     for kind, said in beside.held(options, manifest.made):

@@ -182,13 +182,14 @@ class Linked:
         The bundle.
     manifest : Manifest
         Its manifest.
-    session : bytes
-        Its session.
+    session, output : bytes
+        Its session, and the output for it.
     """
 
     path: str
     manifest: Manifest
     session: bytes
+    output: bytes = b""
 
     def held(self, book: str | None, before: str | None) -> Iterator[tuple[SentenceKind, str]]:
         """Give whether what it names is there: ``good``, ``note`` or ``wrong``, and a sentence.
@@ -228,10 +229,36 @@ class Linked:
             what = f"{folder} has the head of action {named['number']} that it names"
             rest = f"its session has the rows of {year} as they were by then"
             yield SentenceKind.GOOD, f"{self.path}: {what}, and {rest}"
+            yield from self._closed(book, lines)
             yield from self._approved(book)
         elif not wrong:
             what = f"its session doesn't have the rows, and no others, that a year of {folder} had"
             yield SentenceKind.WRONG, f"{self.path}: {what} by action {named['number']}"
+
+    def _closed(self, book: Store, lines: list[JournalLine]) -> Iterator[tuple[SentenceKind, str]]:
+        """Say if its period was closed by some lines, and its report isn't one of the book's."""
+        from plantbal.book.journal import Act
+        from plantbal.book.posting import texts_of
+        from plantbal.book.rounds import same_figures
+        from plantbal.report.blocks import last_blocks
+        from plantbal.report.output import parse_report
+
+        period = self.manifest.period
+        if not any(line.act is Act.CLOSE and line.of == period for line in lines):
+            return
+        with book.opened(reading=True):
+            texts = [text for text in texts_of(book, period) if text]
+        try:
+            found = parse_report(self.output.decode("utf-8"), self.path)
+        except (InputFault, ValueError):  # the check says why
+            return
+        mine = last_blocks(found.blocks_in_order).get(period)
+        for text in texts:
+            kept = last_blocks(parse_report(text, period).blocks_in_order).get(period)
+            if same_figures(mine, kept):
+                return
+        what = f"{period} is closed, and its output has other figures than each report of it that"
+        yield SentenceKind.WRONG, f"{self.path}: {what} the book has"
 
     def _approved(self, book: Store) -> Iterator[tuple[SentenceKind, str]]:
         """Give who has submitted, approved and signed the close of its period, by the book."""

@@ -3,7 +3,6 @@
 from __future__ import annotations
 
 from collections.abc import Iterator, Mapping, Sequence
-from dataclasses import replace
 from decimal import Decimal
 
 from plantbal.accounts.sheet import SalesUnit, sales_units
@@ -15,7 +14,7 @@ from plantbal.book.journal import Kept
 from plantbal.book.ledger import YearLedger, number_with_commas
 from plantbal.book.meters import read_meters
 from plantbal.book.results import Reported
-from plantbal.book.rounds import OtherRounds, kept_rounds, settled
+from plantbal.book.rounds import OtherSettings, kept_settings, settled
 from plantbal.book.said import lacks
 from plantbal.book.store import Act, Action, Store
 from plantbal.book.years import Years
@@ -249,8 +248,8 @@ def reports(
     ------
     Fault
         If there is no such period, or none is open.
-    OtherRounds
-        If one is closed, and would have other suspects taken out than its report has.
+    OtherSettings
+        If one is closed, and would be made with other settings than its report.
     """
     with book.opened():
         years = Years(book)
@@ -282,17 +281,17 @@ def _made(book: Store, ledger: YearLedger, name: str, settings: RunSettings) -> 
 
     Raises
     ------
-    OtherRounds
-        If the period is closed, and the rounds of its last report give another one.
+    OtherSettings
+        If the period is closed, and the settings of its last report give another one.
     """
     session, components = book.text(year_file(ledger.name)), ledger.session.components_in(name)
     how = settled(book, report_file(name), settings)
     made = report_of(how, session, name, components)
     if ledger.periods[name].closed and book.has(report_file(name)):
-        last = replace(how, eliminate=kept_rounds(book, report_file(name)))
-        is_other = how.rounds != last.rounds
+        last = RunSettings(program=how.program).after(kept_settings(book, report_file(name)))
+        is_other = how.words != last.words
         if is_other and report_of(last, session, name, components)[0] != made[0]:
-            raise OtherRounds(name, last.rounds)
+            raise OtherSettings(name, last, how)
     return made
 
 

@@ -238,6 +238,8 @@ class Windowed:
         Whether it is another than was there.
     session : str
         The session that asked for it.
+    closed : tuple of str
+        Those of its periods that are closed: their reports have other figures.
     """
 
     first: str
@@ -246,6 +248,7 @@ class Windowed:
     path: Path
     is_new: bool
     session: str
+    closed: tuple[str, ...] = ()
 
 
 class ReportState(Enum):

@@ -16,7 +16,7 @@ from plantbal.book.store import Act, Action, Store
 from plantbal.book.years import Years
 from plantbal.faults import Fault, Refusal
 from plantbal.program import RunSettings
-from plantbal.report.blocks import Block
+from plantbal.report.blocks import Block, last_blocks
 from plantbal.sentence import Figure, Sentence
 from plantbal.study.uncertainty import uncertainty_of
 
@@ -45,7 +45,10 @@ def window(
             action.seen = [year_file(ledger.name), name]
         if action.seen:
             book.do(action)
-    return Windowed(first, last, output, book.path(name), new, asked)
+        covered = last_blocks(output.blocks_in_order).values()
+        names = dict.fromkeys(n for each in covered if each.window for n in each.window.periods)
+        closed = tuple(each for each in names if ledger.periods[each].closed)
+    return Windowed(first, last, output, book.path(name), new, asked, closed)
 
 
 def undipped(block: Block) -> Iterator[str]:
@@ -68,3 +71,11 @@ def undipped(block: Block) -> Iterator[str]:
             held = Figure(f"{tonnes_text(int(row['flow']))} t ± {sd[row['name']]:,.3f} t")
             form = "{name}: {held}, by the flows around it"
             yield Sentence(form, name=spot.shown, held=held)
+
+
+def closed_said(found: Windowed) -> Iterator[str]:
+    """Give of each closed period of a window that its booked figures are others, a line each."""
+    for period in found.closed:
+        yield Sentence(
+            "{period} is closed, and these aren't the figures of its report", period=period
+        )

@@ -66,15 +66,18 @@ def add_timeout(parser: argparse.ArgumentParser, *, condition: str = "") -> None
     parser.add_argument("--timeout", metavar="SECONDS", type=seconds_of, help=timeout)
 
 
-def add_sweeps(parser: argparse.ArgumentParser) -> None:
-    """Add the words that say how far a solution goes."""
+def add_sweeps(parser: argparse.ArgumentParser, *, carried: bool = False) -> None:
+    """Add the words that say how far a solution goes, perhaps as far as a last report of a book."""
     most = schema().limits
-    gap = "the greatest gap, in thousandths of a standard deviation (default: 10)"
+    last = "that of the last report, or " if carried else ""
+    gap = f"the greatest gap, in thousandths of a standard deviation (default: {last}10)"
     gaps = whole_between(1, most["most_gap"])
-    parser.add_argument("--gap", metavar="N", type=gaps, default=10, help=gap)
-    sweeps = "at most N sweeps (default: 5,000)"
+    parser.add_argument("--gap", metavar="N", type=gaps, default=None if carried else 10, help=gap)
+    sweeps = f"at most N sweeps (default: {last.replace('that', 'those')}5,000)"
     allowed = whole_between(0, most["most_sweeps"])
-    parser.add_argument("--sweeps", metavar="N", type=allowed, default=5000, help=sweeps)
+    parser.add_argument(
+        "--sweeps", metavar="N", type=allowed, default=None if carried else 5000, help=sweeps
+    )
 
 
 def add_run(parser: argparse.ArgumentParser, *, default: str = "none") -> None:
@@ -88,8 +91,12 @@ def add_run(parser: argparse.ArgumentParser, *, default: str = "none") -> None:
         How many suspects are taken out if nobody says it, as the help has it.
     """
     add_program(parser)
-    add_sweeps(parser)
+    carried = default != "none"
+    add_sweeps(parser, carried=carried)
     parser.add_argument("--no-tests", action="store_true", help="make no tests")
+    if carried:
+        tests = "make the tests, though the last report was made without them"
+        parser.add_argument("--tests", action="store_true", help=tests)
     add_rounds(parser, default=default)
 
 
@@ -136,9 +143,9 @@ def reading_of(options: argparse.Namespace) -> ReadingOptions:
 
 
 def settings_of(options: argparse.Namespace) -> RunSettings:
-    """Return how a session is run by the words of `add_run`."""
+    """Return how a session is run by the words of `add_run`; None is what they don't say."""
     return RunSettings(
-        tests=not options.no_tests,
+        tests=False if options.no_tests else True if options.tests else None,
         eliminate=options.eliminate,
         gap=options.gap,
         sweeps=options.sweeps,

@@ -18,6 +18,7 @@ from plantbal.faults import Fault, InputFault, Place, WordsFault
 from plantbal.files import write_text
 from plantbal.forms import read_session, session_to_run
 from plantbal.model.ledger import Ledger
+from plantbal.program import RunSettings
 from plantbal.page.account import account_of
 from plantbal.page.books import FromBook, booked
 from plantbal.page.gates import (
@@ -310,24 +311,41 @@ def _source(options: argparse.Namespace) -> tuple[Source, Output | None, Path | 
 
     session = session_to_run(options.output)
     program = find_program(options.program)
+    settings = _settings(options, session[1])
+    numbers = settings.numbers
     output = run_program(
         session[1],
-        eliminate=_rounds(options, session[1]),
+        tests=settings.is_tested,
+        eliminate=settings.rounds,
+        gap=numbers["gap"],
+        sweeps=numbers["sweeps"],
         program=program,
         timeout=options.timeout,
         judged=True,
     )
+    _check_closed(options, session[1], output, settings)
     source = Source(output.rows, f"the output of {session[0]}", session, is_run=True)
     return source, output, program
 
 
-def _rounds(options: argparse.Namespace, session: bytes) -> int:
-    """Return how many suspects are taken out: of a book's session as many as of its reports."""
-    if options.eliminate is not None or options.book is None:
-        return options.eliminate or 0
-    from plantbal.book.rounds import rounds_asked
+def _settings(options: argparse.Namespace, session: bytes) -> RunSettings:
+    """Return how the session is run: one of a book, as far as nobody says it, as its reports."""
+    given = RunSettings(eliminate=options.eliminate, program=options.program)
+    if options.book is None or not was_in(options.book, session):
+        return given
+    from plantbal.book.rounds import settings_asked
 
-    return rounds_asked(options.book, session) if was_in(options.book, session) else 0
+    return settings_asked(options.book, session, given)
+
+
+def _check_closed(
+    options: argparse.Namespace, data: bytes, output: Output, how: RunSettings
+) -> None:
+    """Refuse a page of a closed period of a book that is made with other settings."""
+    if options.book is not None and was_in(options.book, data):
+        from plantbal.book.rounds import check_closed
+
+        check_closed(options.book, output, how, older=False)
 
 
 def _is_of_book(folder: str | None, source: Source, added: FromBook) -> bool:

@@ -210,8 +210,7 @@ def _proposal(
     named = [*_BASES, *action.appended, *action.written, *action.seen, *action.gone]
     bases = {name: str(base_of(book, name)) for name in dict.fromkeys(named)}
     how = settings or RunSettings()
-    numbers = {"tests": int(how.tests), "eliminate": how.rounds}
-    numbers |= {"gap": how.gap, "sweeps": how.sweeps}
+    numbers = how.numbers
     return SubmittedMonth(
         action.act,
         action.of,

@@ -15,7 +15,7 @@ from plantbal.book.reporting import (
 )
 from plantbal.book.results import Reported
 from plantbal.book.said import count_said
-from plantbal.book.window import undipped
+from plantbal.book.window import closed_said, undipped
 from plantbal.commands.options import AS_LAST_REPORT, AS_LAST_WINDOW, add_run, settings_of
 from plantbal.files import write_text
 from plantbal.gates import line_of_stop, unsaid
@@ -85,6 +85,8 @@ def _window(options: argparse.Namespace) -> int:
     for block in found.output.blocks_in_order[-1:]:
         for line in (state_of_block(block), *suspects_of_block(block), *undipped(block)):
             print(line)
+    for line in closed_said(found):
+        print(line)
     print(f"{found.first} to {found.last}: {found.path}" + ("" if found.is_new else ", as it was"))
     if options.session:
         write_text(options.session, found.session)
