@@ -234,7 +234,7 @@ _plantbal_desk() {
             _plantbal_files -f
             return
         fi
-        _plantbal_words '-h --help --period --plant --out --time --book --before --key --stamps --timeout --program --gap --sweeps --no-tests --eliminate' ;;
+        _plantbal_words '-h --help --period --plant --out --time --book --before --key --stamps --timeout --program --gap --sweeps --no-tests --tests --eliminate' ;;
     audit)
         if [[ $here != -* ]]; then
             _plantbal_files -f
@@ -274,7 +274,7 @@ _plantbal_desk() {
             _plantbal_files -f
             return
         fi
-        _plantbal_words '-h --help --program --locale --missing --skip --limits --mapping --book --who --key --json --why --strike --anyway --year --dry-run --density --error --take --session --gap --sweeps --no-tests --eliminate --report --head --text --signed --signers --revoked --stamps --off --csv --xlsx --postings --by --owner --tanks --page --title --all --plant --first' ;;
+        _plantbal_words '-h --help --program --locale --missing --skip --limits --mapping --book --who --key --json --why --strike --anyway --year --dry-run --density --error --take --session --gap --sweeps --no-tests --tests --eliminate --report --head --text --signed --signers --revoked --stamps --off --csv --xlsx --postings --by --owner --tanks --page --title --all --plant --first' ;;
     pull)
         _plantbal_words '-h --help --book --who --from --to --dry-run --yes' ;;
     push)

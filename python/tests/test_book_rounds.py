@@ -355,6 +355,14 @@ def test_a_page_of_the_book(mill: Path, say: Desk, tmp_path: Path) -> None:
 # ---- closed periods
 
 
+def test_a_window_over_closed_periods(mill: Path) -> None:
+    """It names those whose booked figures are others."""
+    Book(mill).add(MONTH_END / "may", reading=GERMAN)
+    assert Book(mill).window("2024-05", JUNE).closed == ()
+    Book(mill).close("2024-05", anyway=ANYWAY)
+    assert Book(mill).window("2024-05", JUNE).closed == ("2024-05",)
+
+
 def test_a_closed_report_leaves_out_what_its_close_did(mill: Path) -> None:
     eliminated(mill, 2)
     Book(mill).close(JUNE)
