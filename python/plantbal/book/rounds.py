@@ -53,7 +53,7 @@ class OtherSettings(Fault):
         super().__init__(
             what,
             remedy=Sentence(
-                "make the report without a number; amend or strike readings that are wrong, with a reason"
+                "leave its settings as they are; amend or strike readings that are wrong, with a reason"
             ),
         )
         self.period = period

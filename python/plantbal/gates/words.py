@@ -236,7 +236,7 @@ _REMEDIES: dict[Gate, Callable[[Stop], str]] = {
     Gate.UNTESTED: lambda stop: (
         Sentence("`plantbal-desk critical 0.05 {dof}` gives one", dof=stop.values["dof"])
         if stop.values
-        else "leave --no-tests out"
+        else "make the report with --tests"
     ),
     Gate.MISSING: lambda stop: "book what is missing, or an estimate with the error that it has",
     Gate.UNASSAYED: lambda stop: "enter it now: assays can't come after the close",
