@@ -8,6 +8,7 @@ library's own.
 from __future__ import annotations
 
 import datetime
+import re
 
 from django.utils import formats
 from django.utils.translation import get_language, gettext
@@ -24,13 +25,20 @@ def is_english() -> bool:
     return (get_language() or "en").startswith("en")
 
 
+# Whatever stands between a figure and its percent sign.
+_PERCENT = re.compile(r"(?<=\d)\s?%")
+
+
 def figure(text: str) -> str:
-    """Return a figure with commas between thousands as the person's language writes it."""
+    """Return a figure with commas between thousands as the person's language writes it.
+
+    A percentage has a space before its sign, in each of the languages, and isn't parted from it.
+    """
     marks = {
         ",": formats.get_format("THOUSAND_SEPARATOR"),
         ".": formats.get_format("DECIMAL_SEPARATOR"),
     }
-    return "".join(marks.get(each, each) for each in text)
+    return _PERCENT.sub("\xa0%", "".join(marks.get(each, each) for each in text))
 
 
 class _DeskEnglish(English):

@@ -10,7 +10,7 @@ from typing import TYPE_CHECKING, Any
 from django import template
 from django.conf import settings
 from django.http import HttpRequest
-from django.utils import formats
+from django.utils import formats, timezone
 from django.utils.html import format_html, format_html_join
 from django.utils.safestring import SafeString
 from django.utils.translation import get_language
@@ -103,6 +103,12 @@ def number(value: Decimal | float | int | None, places: int = 0) -> str:
 
 
 @register.filter
+def percent(value: Decimal | float | int | None, places: int = 0) -> str:
+    """Return a percentage in the person's language."""
+    return "" if value is None else f"{number(value, places)}\xa0%"
+
+
+@register.filter
 def day(value: datetime.date | int | None) -> str:
     """Return a day in the person's language, short."""
     if value is None:
@@ -115,12 +121,15 @@ def day(value: datetime.date | int | None) -> str:
 
 
 @register.filter
-def moment(text: str) -> str:
-    """Return a moment of a journal in the person's language, to the minute."""
-    try:
-        found = datetime.datetime.fromisoformat(text.replace("Z", "+00:00"))
-    except ValueError:
-        return text
+def moment(when: str | datetime.datetime) -> str:
+    """Return a moment, as a journal or the desk has it, in the person's language, to the minute."""
+    if isinstance(when, datetime.datetime):
+        found = timezone.localtime(when)
+    else:
+        try:
+            found = datetime.datetime.fromisoformat(when.replace("Z", "+00:00"))
+        except ValueError:
+            return when
     return f"{day(found.date())} {found:%H:%M}"
 
 

@@ -203,6 +203,9 @@ READ: dict[str, Sheets] = {
             *([None, day, 100, 90, 95] for day in DAYS),
         ]
     },
+    "a sheet of periods whose names are those of a column Period": {
+        "Periods": [["Period", "First", "Last"], ["2024-01", DAYS[0], DAYS[-1]]]
+    },
     "a cover with a version, and running numbers": {
         "Page de garde": [["Usine"], ["Version", 3]],
         "streams": [

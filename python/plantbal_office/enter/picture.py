@@ -94,7 +94,9 @@ def pictures_of(fault: Fault, workbook: Path) -> tuple[list[SheetPicture], list[
         if at is None or not line or sum(map(len, by_sheet.values())) >= MOST:
             rest.append(each)
             continue
-        by_sheet[at].append(FaultPlace(line, column, said(each.what), said(each.remedy)))
+        found = FaultPlace(line, column, said(each.what), said(each.remedy))
+        if found not in by_sheet[at]:  # a row of many tanks says the same of each
+            by_sheet[at].append(found)
     return [_picture(sheets[at], found) for at, found in by_sheet.items()], rest
 
 

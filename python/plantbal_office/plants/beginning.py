@@ -11,6 +11,7 @@ from django.contrib import messages
 from django.http import HttpRequest, HttpResponse
 from django.shortcuts import get_object_or_404, render
 from django.urls import reverse
+from django.utils import timezone
 from django.utils.translation import gettext as _
 from django.utils.translation import gettext_lazy
 
@@ -112,6 +113,7 @@ def plant_mapping_page(request: HttpRequest, drop: str) -> HttpResponse:
         plant = _begun(request, found, form.cleaned_data, reading)
         unmap(found)
         found.plant, found.locale = plant, ""
+        found.made = timezone.now()  # what has begun the book doesn't replace the rest of it
         found.save()
         messages.info(request, _("The rest of the workbook isn't booked yet: look at it."))
         return reverse("enter:seen", args=[plant.slug, found.pk])

@@ -1,8 +1,9 @@
 """The state of each month, as a word, and what it waits for, by whom.
 
 A month is *incomplete* if readings, dips or assays are missing, *open* if nothing but a report is,
-*rejected* if its report has something to look at, and *ready* if it has nothing; once closed it is
-*closed*, or *changed* since, if something was booked of it.
+*rejected* if its report rejects or says nothing, *untested* if nothing tested it, and *ready* if only
+an answer is wanted or nothing; once closed it is *closed*, or *changed* since, if something was
+booked of it.
 """
 
 from __future__ import annotations
@@ -31,6 +32,7 @@ class Standing(Enum):
     OPEN = "open"
     LACKING = "lacking"
     REJECTED = "rejected"
+    UNTESTED = "untested"
     READY = "ready"
     CLOSED = "closed"
     CHANGED = "changed"
@@ -40,6 +42,7 @@ WORDS = {
     Standing.OPEN: gettext_lazy("open"),
     Standing.LACKING: gettext_lazy("incomplete"),
     Standing.REJECTED: gettext_lazy("rejected"),
+    Standing.UNTESTED: gettext_lazy("not tested"),
     Standing.READY: gettext_lazy("ready"),
     Standing.CLOSED: gettext_lazy("closed"),
     Standing.CHANGED: gettext_lazy("changed since"),
@@ -48,11 +51,12 @@ SIGNS = {
     Standing.OPEN: "○",
     Standing.LACKING: "◔",
     Standing.REJECTED: "✗",
+    Standing.UNTESTED: "–",
     Standing.READY: "✓",
     Standing.CLOSED: "■",
     Standing.CHANGED: "▲",
 }
-_REJECTS = {Gate.NO_REPORT, Gate.UNCONVERGED, Gate.REJECTED, Gate.UNDECIDED, Gate.UNTESTED}
+_REJECTS = {Gate.NO_REPORT, Gate.UNCONVERGED, Gate.REJECTED, Gate.UNDECIDED}
 
 
 @dataclass(frozen=True)
@@ -139,6 +143,9 @@ def _stand(plant: Plant, month: BookMonth, missing: Sequence[str]) -> Stand:
     if gates & _REJECTS:
         waits = _("a correction of what its report rejects")
         return Stand(month, Standing.REJECTED, waits, (Role.ENGINEER,), *more)
+    if Gate.UNTESTED in gates:
+        waits = _("critical values, by which its report is tested")
+        return Stand(month, Standing.UNTESTED, waits, (Role.ENGINEER,), *more)
     if missing:
         return Stand(month, Standing.LACKING, _lacks(missing), (Role.CLERK,), *more)
     if stops:

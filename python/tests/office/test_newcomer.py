@@ -66,6 +66,7 @@ def test_newcomer(desk: Browser, tmp_path: Path) -> None:
     one.sees("Tagesmengen")
     one.follows("Begin the book this way")
     one.sees("The rest of the workbook isn't booked yet")
+    assert not desk.has(".verdict.look[role=status]"), "it doesn't replace itself"
     one.follows("Book it")
     one.sees("2024-06")
     one.follows("Make the report")

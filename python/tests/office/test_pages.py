@@ -195,6 +195,9 @@ def test_how_a_workbook_is_read(shown: Browser) -> None:
     assert "how it is read" in shown.text(), shown.text()
     assert shown.driver.execute_script(NAMELESS) == [], "each field, button and picture has a name"
     said = [each for width in WIDTHS for each in complaints_of(shown, "mapping", width)]
+    shown.driver.set_window_size(800, 900)
+    heads = "return [...document.querySelectorAll('table.mapped thead')].map(e => e.clientHeight)"
+    assert all(high > 9 for high in shown.driver.execute_script(heads)), "columns have their heads"
     if WRITES:
         pictured(shown, "mapping")
     shown.driver.set_window_size(1280, 900)

@@ -187,6 +187,8 @@ class Columns:
             of_any = {"stream", "tank", "tag", "product"} - {*self.heads}
             if self.kind.word in _OF_ANY and meaning.of in of_any:
                 meaning = replace(meaning, of="name")
+            if self.kind.word == "periods" and meaning.of == "period":
+                meaning = replace(meaning, of="name")  # of the periods themselves
             if meaning.of in heads and whole is exact and self._can_be(column, meaning.of):
                 found.append(meaning)
         own = plain_word(column.name or column.head)
