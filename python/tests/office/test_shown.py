@@ -6,7 +6,7 @@ from pathlib import Path
 
 import pytest
 from office.site_of import TOP, Site
-from office.test_bad_input import sentence
+from office.test_bad_input import drop, sentence, workbook
 from plantbal import Book
 
 
@@ -64,3 +64,14 @@ def test_a_fault_of_a_row_is_said_once(made: Path, tmp_path: Path) -> None:
     some = [Fault(what, place=place) for what in ("no error", "no error", "no density")]
     (picture,), rest = pictures_of(Faults(some, [], ""), workbook)
     assert not rest and picture.rows[1].cells[0].faults == ["no error", "no density"]
+
+
+def test_a_changed_meter_is_seen_before_it_is_booked(site: Site) -> None:
+    """An error that a workbook changes is on its preview, as it is said once it is booked."""
+    plant = TOP / "examples" / "month_end" / "plant" / "streams.csv"
+    rows = plant.read_text("utf-8").replace(
+        "TAILS;FLOTATION;env;metered;1,5 %", "TAILS;FLOTATION;env;metered;50 %"
+    )
+    page = drop(site, workbook("streams.csv", rows.encode())).content.decode()
+    beside = page.partition('<ul class="beside">')[2].partition("</ul>")[0]
+    assert "50" in beside
