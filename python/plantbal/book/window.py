@@ -3,7 +3,7 @@
 
 from __future__ import annotations
 
-from collections.abc import Iterator
+from collections.abc import Iterable, Iterator
 
 from plantbal.amounts import tonnes_text
 from plantbal.audit.believed import program_digest
@@ -73,9 +73,9 @@ def undipped(block: Block) -> Iterator[str]:
             yield Sentence(form, name=spot.shown, held=held)
 
 
-def closed_said(found: Windowed) -> Iterator[str]:
+def closed_said(closed: Iterable[str]) -> Iterator[str]:
     """Give of each closed period of a window that its booked figures are others, a line each."""
-    for period in found.closed:
+    for period in closed:
         yield Sentence(
             "{period} is closed, and these aren't the figures of its report", period=period
         )

@@ -101,6 +101,11 @@ def farm(hand: Hand) -> None:
     hand.amend("FI-1", "2024-05-01", "2418.5 t", "meter factor of the proving of 8 May")
     hand.report("may1")
     hand.post("may1")
+    hand.window("may1", "may2")
+    if isinstance(hand, Browser):
+        assert (
+            len(hand.all(".of-closed li")) == 1
+        ), "the figures of a closed period are said to be others"
 
 
 STORIES: tuple[Callable[[Hand], None], ...] = (mill, bad_meter, own, refinery, terminal, farm)

@@ -85,7 +85,7 @@ def _window(options: argparse.Namespace) -> int:
     for block in found.output.blocks_in_order[-1:]:
         for line in (state_of_block(block), *suspects_of_block(block), *undipped(block)):
             print(line)
-    for line in closed_said(found):
+    for line in closed_said(found.closed):
         print(line)
     print(f"{found.first} to {found.last}: {found.path}" + ("" if found.is_new else ", as it was"))
     if options.session:
