@@ -168,7 +168,7 @@ class Person:
                 path.write_text(look.text(), encoding="utf-8")
             assert differences(look, Look.read(path.read_text(encoding="utf-8"))) == [], path.name
         if WRITES and name == "waiting":
-            self.driver.set_window_size(1280, 560)
+            self.driver.set_window_size(1280, 660)
             self.driver.save_screenshot(str(SHOWN / f"office_{name}.png"))
         self.driver.set_window_size(1280, 900)
 
