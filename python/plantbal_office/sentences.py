@@ -81,6 +81,14 @@ def said(text: str) -> str:
     return said_in(spoken(), text)
 
 
+def day_written(text: str) -> str:
+    """Return a day such as 2024-06-30 as the person's language writes it; what is none stays."""
+    try:
+        return spoken().day(datetime.date.fromisoformat(text))
+    except ValueError:
+        return text
+
+
 def place_said(place: Place) -> str:
     """Return where something is."""
     return str(place) if is_english() else place.said_in(SPOKEN)

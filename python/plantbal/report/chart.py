@@ -13,6 +13,7 @@ from plantbal.files import replacing
 from plantbal.forms import read_session
 from plantbal.report.output import read_all
 from plantbal.report.trend import Trend, TrendLine, trend_of
+from plantbal.sentence import ENGLISH, Language, Sentence, said_in
 from plantbal.statuses import ExitStatus
 
 HELP = """
@@ -53,6 +54,11 @@ HEADINGS = (
     "flow less meter,\nstandard deviations of the meter",
     "sum of flow less meter, t",
 )
+STATISTIC_LABEL = "statistic of\nthe global test"
+LEGEND_LABELS = (
+    *("flow to book", "± 2 standard deviations", "meter", "critical value"),
+    "rejected by the global test",
+)
 # In inches: the width of a chart, and the heights of a meter, of the statistic and of the legend.
 WIDTH, METER, STATISTIC, LEGEND = 13.0, 1.55, 2.0, 0.45
 # With more periods than these circles are small.
@@ -75,13 +81,15 @@ class Chart:
         What it shows.
     lines : list of TrendLine
         Its meters.
+    language : Language
+        In what it speaks.
     """
 
-    def __init__(self, trend: Trend, lines: list[TrendLine]) -> None:
+    def __init__(self, trend: Trend, lines: list[TrendLine], language: Language = ENGLISH) -> None:
         from matplotlib import pyplot
 
         heights = [LEGEND, *[METER] * len(lines), STATISTIC]
-        self.trend, self.lines = trend, lines
+        self.trend, self.lines, self.language = trend, lines, language
         self.figure = pyplot.figure(figsize=(WIDTH, sum(heights)), constrained_layout=True)
         self.grid = self.figure.add_gridspec(len(heights), 3, height_ratios=heights)
 
@@ -96,7 +104,7 @@ class Chart:
                 draw(axes, line)
         for column, heading in enumerate(HEADINGS):
             if panels:
-                panels[0][column].set_title(heading, fontsize="medium")
+                panels[0][column].set_title(self._said(heading), fontsize="medium")
         self._same_scale([row[1] for row in panels])
         for place, row_of in enumerate(panels):
             for axes in row_of:
@@ -104,6 +112,10 @@ class Chart:
         axes = self._panel(len(self.lines) + 1, slice(None))
         self._statistic(axes)
         self._ticks(axes, 18, labels=True)
+
+    def _said(self, text: str) -> str:
+        """Return a text in the language."""
+        return said_in(self.language, text)
 
     @property
     def _days(self) -> float:
@@ -119,7 +131,7 @@ class Chart:
             span = trend.starts[place], trend.ends[place]
             axes.axvspan(*span, linewidth=0, alpha=0.6, zorder=0, **HATCHED)
         axes.tick_params(labelsize="small")
-        axes.yaxis.set_major_formatter("{x:,.10g}")
+        axes.yaxis.set_major_formatter(lambda x, _at: self.language.figure(f"{x:,.10g}"))
         for side in ("top", "right"):
             axes.spines[side].set_visible(False)
         return axes
@@ -198,7 +210,7 @@ class Chart:
                 axes.plot(ends, [critical] * 2, color=REJECTED, linewidth=1.6, gid=gid)
         axes.margins(y=0.15)
         axes.set_ylim(bottom=0)
-        axes.set_ylabel("statistic of\nthe global test", fontsize="small")
+        axes.set_ylabel(self._said(STATISTIC_LABEL), fontsize="small")
         top = axes.get_ylim()[1]
         for place in trend.rejected.nonzero()[0]:
             axes.plot(
@@ -212,7 +224,9 @@ class Chart:
         self._rejected_names(axes)
         holes = [hole for hole in trend.holes if hole][-MOST_HOLES:]
         if holes:
-            axes.set_xlabel("\n".join(holes), color=REJECTED, fontsize=7.5, loc="left")
+            axes.set_xlabel(
+                "\n".join(map(self._said, holes)), color=REJECTED, fontsize=7.5, loc="left"
+            )
 
     def _rejected_names(self, axes: Any) -> None:
         """Write the names of rejected periods above a panel, each that doesn't touch another."""
@@ -259,13 +273,14 @@ class Chart:
         from matplotlib.lines import Line2D
         from matplotlib.patches import Patch
 
+        flow, band, meter, critical, rejected = map(self._said, LEGEND_LABELS)
         circle = {"marker": "o", "markerfacecolor": "white", "markeredgecolor": "black"}
         handles = [
-            Line2D([], [], color=INK, label="flow to book"),
-            Patch(color=BAND, label="± 2 standard deviations"),
-            Line2D([], [], linestyle="none", markersize=4, label="meter", **circle),
-            Line2D([], [], color=REJECTED, label="critical value"),
-            Patch(label="rejected by the global test", **HATCHED),
+            Line2D([], [], color=INK, label=flow),
+            Patch(color=BAND, label=band),
+            Line2D([], [], linestyle="none", markersize=4, label=meter, **circle),
+            Line2D([], [], color=REJECTED, label=critical),
+            Patch(label=rejected, **HATCHED),
         ]
         axes = self.figure.add_subplot(self.grid[0, :])
         axes.axis("off")
@@ -295,7 +310,7 @@ def chosen_lines(trend: Trend, most: int, names: list[str]) -> list[TrendLine]:
         return trend.greatest(most)
     for name in names:
         if name not in trend.lines:
-            said = f"there is no flow of {name} to chart"
+            said = Sentence("there is no flow of {name} to chart", name=name)
             raise Fault(said, text=name, remedy="correct --stream")
     return [trend.lines[name] for name in dict.fromkeys(names)]
 
@@ -329,7 +344,13 @@ def save(figure: Any, out: BinaryIO | Path, form: str) -> None:
     pyplot.close(figure)
 
 
-def write_chart(trend: Trend, lines: list[TrendLine], out: BinaryIO | Path, form: str) -> None:
+def write_chart(
+    trend: Trend,
+    lines: list[TrendLine],
+    out: BinaryIO | Path,
+    form: str,
+    language: Language = ENGLISH,
+) -> None:
     """Write the chart of periods.
 
     Parameters
@@ -342,9 +363,11 @@ def write_chart(trend: Trend, lines: list[TrendLine], out: BinaryIO | Path, form
         Where it goes.
     form : {'svg', 'png', 'pdf'}
         Its form.
+    language : Language
+        In what it speaks.
     """
     begin_drawing(form)
-    chart = Chart(trend, lines)
+    chart = Chart(trend, lines, language)
     chart.draw()
     save(chart.figure, out, form)
 

@@ -12,6 +12,7 @@ from plantbal.faults import Fault
 from plantbal.records import read_records
 from plantbal.report.blocks import Block, Values
 from plantbal.report.output import Output
+from plantbal.sentence import Joined, Sentence
 
 # How many holes of a rejected period are said, and how many measurements of each.
 _MOST_HOLES, _MOST_NAMES = 3, 6
@@ -212,10 +213,15 @@ def _hole_of(block: Block) -> str:
     if _verdict(block) != "reject":
         return ""
     some = [
-        f"{amount_said(told.hole.size)} at {one_of_said(told.names, block, _MOST_NAMES)}"
+        Sentence(
+            "{amount} at {names}",
+            amount=amount_said(told.hole.size),
+            names=one_of_said(told.names, block, _MOST_NAMES),
+        )
         for told in diagnosis_of(block).holes[:_MOST_HOLES]
     ]
-    return f"{block.subject}: {'; '.join(some)}" if some else ""
+    form = "{subject}: {said}"
+    return Sentence(form, subject=block.subject, said=Joined("; ", some)) if some else ""
 
 
 def _lines_of(rounds: list[_Rounds]) -> dict[str, TrendLine]:

@@ -21,6 +21,7 @@ from dataclasses import dataclass
 from decimal import ROUND_HALF_UP, Context, Decimal, localcontext
 
 from plantbal.causes import CausedFault
+from plantbal.sentence import Sentence
 from plantbal.volumes.causes import VolumeCause
 from plantbal.volumes.groups import COEFFICIENTS, Expansion, Group, check_temperature, expansion
 
@@ -135,7 +136,8 @@ def _expansion(group: Group, density: Decimal, coefficient: Decimal | None) -> E
         what = VolumeCause.NO_COEFFICIENT()
         if coefficient is not None:
             what = VolumeCause.COEFFICIENT_OUTSIDE(coefficient=coefficient)
-        remedy = f"write the product's coefficient of expansion, {low} to {high} a degree"
+        form = "write the product's coefficient of expansion, {low} to {high} a degree"
+        remedy = Sentence(form, low=low, high=high)
         raise CausedFault(what, text=str(coefficient or ""), remedy=remedy)
     return Expansion(coefficient, Decimal(0))
 
@@ -181,7 +183,7 @@ class FactorTable:
             what = VolumeCause.OUTSIDE_OF_FACTORS(
                 name=self.product, first=first, last=last, at=temperature
             )
-            remedy = "add a row to the sheet factors"
+            remedy = Sentence("add a row to the sheet factors")
             raise CausedFault(what, text=str(temperature), remedy=remedy)
         with localcontext(CONTEXT):
             slopes = [(high[1] - low[1]) / (high[0] - low[0]) for low, high in beside]

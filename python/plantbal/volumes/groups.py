@@ -27,6 +27,7 @@ from dataclasses import dataclass
 from decimal import Decimal
 
 from plantbal.causes import CausedFault
+from plantbal.sentence import Sentence
 from plantbal.volumes.causes import VolumeCause
 
 
@@ -134,11 +135,13 @@ def check_temperature(group: Group, density: Decimal, temperature: Decimal) -> N
         low, high = DENSITIES[group]
         if not low <= density <= high:
             what = VolumeCause.DENSITY_OUTSIDE(letter=group.letter, density=density)
-            remedy = f"it goes from {low} to {high}: name the product's own group, or its factors"
+            form = "it goes from {low} to {high}: name the product's own group, or its factors"
+            remedy = Sentence(form, low=low, high=high)
             raise CausedFault(what, text=str(density), remedy=remedy)
     if group in (Group.CRUDE, Group.PRODUCTS):
         hottest = next((most for below, most in _HOTTEST if density < below), HOTTEST)
     if not COLDEST <= temperature <= hottest:
         what = VolumeCause.TEMPERATURE_OUTSIDE(letter=group.letter, at=temperature, density=density)
-        remedy = f"it goes from {COLDEST} to {hottest} °C: look at the unit of the temperature"
+        form = "it goes from {low} to {high} °C: look at the unit of the temperature"
+        remedy = Sentence(form, low=COLDEST, high=hottest)
         raise CausedFault(what, text=str(temperature), remedy=remedy)

@@ -6,6 +6,7 @@ from dataclasses import dataclass, field
 from decimal import Decimal
 
 from plantbal.causes import CausedFault
+from plantbal.sentence import phrase
 from plantbal.volumes.causes import VolumeCause
 from plantbal.volumes.factor import (
     NO_CHANGE,
@@ -82,8 +83,11 @@ class Product:
 
     def _unknown(self) -> CausedFault:
         what = VolumeCause.EXPANSION_UNKNOWN(name=self.name)
-        remedy = "give it a group in the sheet products (crude, products, lubricants), or rows in "
-        return CausedFault(what, text=self.name, remedy=remedy + "the sheet factors")
+        remedy = phrase(
+            "give it a group in the sheet products (crude, products, lubricants), or rows in "
+            "the sheet factors"
+        )
+        return CausedFault(what, text=self.name, remedy=remedy)
 
 
 @dataclass(frozen=True)
@@ -120,13 +124,14 @@ class Sample:
             return self.density, ""
         if product is None:
             what = VolumeCause.DENSITY_OF_NO_PRODUCT(density=self.density.value, at=self.at)
-            remedy = (
-                "name the product in the sheets streams or tanks, and say in the sheet products"
+            remedy = phrase(
+                "name the product in the sheets streams or tanks, and say in the sheet products "
+                "how it expands"
             )
-            raise CausedFault(what, text=str(self.at), remedy=f"{remedy} how it expands")
+            raise CausedFault(what, text=str(self.at), remedy=remedy)
         if self.by is None and product.table is None:
             what = VolumeCause.INSTRUMENT_UNTOLD(density=self.density.value, at=self.at)
-            remedy = "write hydrometer or densitometer into its column by"
+            remedy = phrase("write hydrometer or densitometer into its column by")
             raise CausedFault(what, text=str(self.at), remedy=remedy)
         found = product.standard(
             self.density.value, self.at, self.by or DensityInstrument.DENSITOMETER
@@ -204,7 +209,7 @@ def _weight(liquid: Liquid) -> Weight:
     if liquid.temperature is not None:
         if liquid.product is None:
             what = VolumeCause.TEMPERATURE_OF_NO_PRODUCT(at=liquid.temperature.value)
-            remedy = "name it in the sheets streams or tanks, or leave the temperature out"
+            remedy = phrase("name it in the sheets streams or tanks, or leave the temperature out")
             raise CausedFault(what, text=str(liquid.temperature.value), remedy=remedy)
         factor = liquid.product.factor(density.value, liquid.temperature.value)
         sd = abs(density.value * factor.by_temperature) * liquid.temperature.sd

@@ -19,6 +19,7 @@ from dataclasses import dataclass
 from decimal import Decimal, localcontext
 
 from plantbal.causes import CausedFault
+from plantbal.sentence import phrase
 from plantbal.volumes.causes import VolumeCause
 from plantbal.volumes.factor import (
     CONTEXT,
@@ -114,7 +115,7 @@ def at_standard(
                 break
         if abs(found - before) >= _NEAR_A_BORDER:
             what = VolumeCause.NO_STANDARD_DENSITY(density=observed, at=temperature)
-            raise CausedFault(what, text=str(observed), remedy="look at both figures")
+            raise CausedFault(what, text=str(observed), remedy=phrase("look at both figures"))
         check_temperature(group, to_nearest(found, _TENTH), temperature)
         # found = read / F(found), so its derivative by read is 1 / (F + found F')
         slope = (read / observed) / (factor.value + found * factor.by_density)

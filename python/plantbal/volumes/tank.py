@@ -21,6 +21,7 @@ from dataclasses import dataclass
 from decimal import Decimal, localcontext
 
 from plantbal.causes import CausedFault
+from plantbal.sentence import phrase
 from plantbal.volumes.causes import VolumeCause
 from plantbal.volumes.factor import CONTEXT
 from plantbal.volumes.liquid import Liquid, MeasuredFigure, Weight
@@ -83,7 +84,9 @@ class Roof:
             return self.mass
         if self.zone is None:
             what = VolumeCause.IN_CRITICAL_ZONE(level=level, rests=self.rests, floats=self.floats)
-            remedy = "take the dip where the roof floats, or rests on its legs; or give the tank a zone error"
+            remedy = phrase(
+                "take the dip where the roof floats, or rests on its legs; or give the tank a zone error"
+            )
             raise CausedFault(what, text=str(level), remedy=remedy)
         part = (level - self.rests) / (self.floats - self.rests)
         sd = (part**2 * self.mass.sd**2 + self.zone**2).sqrt()
@@ -157,12 +160,12 @@ def _content(of: Gauging) -> Content:
         assert of.water is not None
         level = of.water.level.value
         what = VolumeCause.MORE_WATER_THAN_TANK(level=level, water=water, volume=of.depth.volume)
-        raise CausedFault(what, text=str(water), remedy="look at both levels")
+        raise CausedFault(what, text=str(water), remedy=phrase("look at both levels"))
     roof = of.roof.displaced(of.depth.level.value) if of.roof else MeasuredFigure(Decimal(0))
     kilograms = product * weight.kilograms - roof.value
     if kilograms < 0:
         what = VolumeCause.ROOF_TOO_HEAVY(volume=product)
-        remedy = "look at its mass and its critical zone"
+        remedy = phrase("look at its mass and its critical zone")
         raise CausedFault(what, text=str(roof.value), remedy=remedy)
     by_level = weight.kilograms**2 * (of.depth.sd**2 + water_sd**2)
     variance = by_level + product**2 * weight.variance + roof.sd**2

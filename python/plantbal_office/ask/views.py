@@ -40,7 +40,7 @@ from plantbal_office.deeds.once import once
 from plantbal_office.enter.typed import typing_locale
 from plantbal_office.look.views import month_in_address
 from plantbal_office.plants.models import Plant
-from plantbal_office.sentences import figure, said
+from plantbal_office.sentences import figure, said, spoken
 from plantbal_office.shelf import KEPT, book_contents, book_of, plain_book, run_settings
 
 MOST_CHARTED = 36
@@ -312,7 +312,7 @@ def chart_picture(request: HttpRequest) -> HttpResponse:
     trend = trend_of(parse_report(text, "the reports"), days.encode("ascii"))
     streams = [each[:40] for each in request.GET.getlist("stream")[:MOST_STREAMS]]
     out = io.BytesIO()
-    write_chart(trend, chosen_lines(trend, 0 if streams else 8, streams), out, "svg")
+    write_chart(trend, chosen_lines(trend, 0 if streams else 8, streams), out, "svg", spoken())
     answer = HttpResponse(out.getvalue(), content_type="image/svg+xml")
     answer["Content-Security-Policy"] = "default-src 'none'; style-src 'unsafe-inline'"
     return answer

@@ -34,7 +34,7 @@ from plantbal_office.enter.mapping import MappingPage, mapping_page_of
 from plantbal_office.enter.models import Drop
 from plantbal_office.plants.models import Plant
 from plantbal_office.plants.views import YEAR, OpenBook, register
-from plantbal_office.sentences import fault_said
+from plantbal_office.sentences import fault_said, said
 from plantbal_office.shelf import who_of
 
 
@@ -81,7 +81,7 @@ def _say(form: forms.Form, fault: Fault) -> None:
     """Put what is wrong with a workbook over its form."""
     form.add_error(None, without_folders(fault_said(fault)))
     for line in getattr(fault, "lines", ()):
-        form.add_error(None, without_folders(line))
+        form.add_error(None, without_folders(said(line)))
 
 
 def _begun(
@@ -95,7 +95,7 @@ def _begun(
     plant = register(request, words["name"], book.folder)
     messages.success(request, _("The book is begun: {year}.").format(year=made.year))
     for note in made.notes:
-        messages.info(request, without_folders(note))
+        messages.info(request, without_folders(said(note)))
     return plant
 
 

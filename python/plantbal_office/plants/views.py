@@ -26,7 +26,7 @@ from plantbal_office.people.models import Membership
 from plantbal_office.plants.models import Plant, Task
 from plantbal_office.plants.standing import Stand, Standing, stands_of, status_of
 from plantbal_office.plants.tasks import names_by_role, open_tasks, people_of
-from plantbal_office.sentences import fault_said
+from plantbal_office.sentences import day_written, fault_said
 from plantbal_office.shelf import book_contents, book_of, plain_book
 
 # What one person's desk lets its person be in each plant.
@@ -186,7 +186,9 @@ def next_year(request: HttpRequest) -> HttpResponse:
                     first=words["first"],
                     reading=options_of(words["locale"]),
                 )
-            what = _("{year} begins on {first}.").format(year=made.year, first=made.first or "")
+            what = _("{year} begins on {first}.").format(
+                year=made.year, first=day_written(str(made.first or ""))
+            )
             messages.success(request, what)
             return reverse("plants:months", args=[request.plant.slug])
 
@@ -206,7 +208,7 @@ def retire_page(request: HttpRequest) -> HttpResponse:
         name, day = request.POST.get("name", "")[:32], request.POST.get("day", "")[:10]
         made = book_of(request, expected=True).retire(name, day)
         what = _("{name} has its last day on {day}: {year} begins after it.")
-        messages.success(request, what.format(name=name, day=day, year=made.year))
+        messages.success(request, what.format(name=name, day=day_written(day), year=made.year))
         return reverse("plants:months", args=[request.plant.slug])
 
     return once(request, act)

@@ -22,6 +22,7 @@ from plantbal.model import remedies, words
 from plantbal.page import measured
 from plantbal.page.drawing import KINDS
 from plantbal.page.verdict import STOPS
+from plantbal.report.chart import HEADINGS, LEGEND_LABELS, STATISTIC_LABEL
 from plantbal.study.recovering import WAYS
 from plantbal.volumes.standard import DensityInstrument
 from plantbal.workbook.mapping.words import LANGUAGES
@@ -93,6 +94,8 @@ WHOLE = (
         )
     ),
     *("signing/signatures", "signing/stamps", "signing/tools"),
+    *(f"volumes/{name}" for name in ("factor", "groups", "liquid", "standard", "tank")),
+    *("page/books", "page/measured", "page/statement", "report/carried", "report/reasons"),
     *(
         f"workbook/mapping/{name}"
         for name in (
@@ -213,6 +216,7 @@ def of_tables() -> Iterator[str]:
     )
     yield from (*causes._WORDS.values(), PROCESS, NOBODY, NO_ACCOUNT, POSTED, NOW)
     yield from (*measured._KINDS.values(), *WAYS, "out")
+    yield from (*HEADINGS, STATISTIC_LABEL, *LEGEND_LABELS)
     yield from ("unaccounted loss", "unaccounted gain")
     for name, look in KINDS.items():
         yield from (name, look.about)
