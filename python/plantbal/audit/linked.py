@@ -238,7 +238,7 @@ class Linked:
     def _closed(self, book: Store, lines: list[JournalLine]) -> Iterator[tuple[SentenceKind, str]]:
         """Say if its period was closed by some lines, and its report isn't one of the book's."""
         from plantbal.book.journal import Act
-        from plantbal.book.posting import texts_of
+        from plantbal.book.posting import kept_reports
         from plantbal.book.rounds import same_figures
         from plantbal.report.blocks import last_blocks
         from plantbal.report.output import parse_report
@@ -247,7 +247,7 @@ class Linked:
         if not any(line.act is Act.CLOSE and line.of == period for line in lines):
             return
         with book.opened(reading=True):
-            texts = [text for text in texts_of(book, period) if text]
+            texts = [text for text in kept_reports(book, period) if text]
         try:
             found = parse_report(self.output.decode("utf-8"), self.path)
         except (InputFault, ValueError):  # the check says why

@@ -182,13 +182,13 @@ def _closed_by(book: Store, ledger: YearLedger, period: str) -> ReportVersion | 
         if line.act is not Act.CLOSE or line.of != period:
             continue
         report, rows = (line.files.get(n) for n in (report_file(period), year_file(ledger.name)))
-        for text in texts_of(book, period) if report is not None and rows is not None else ():
+        for text in kept_reports(book, period) if report is not None and rows is not None else ():
             if rows is not None and Kept.of(text.encode("utf-8")) == report:
                 return ReportVersion(period, ledger.name, text, rows.lines or 0, line)
     return None
 
 
-def texts_of(book: Store, period: str) -> Iterator[str]:
+def kept_reports(book: Store, period: str) -> Iterator[str]:
     """Give the reports of a period that are kept."""
     yield book.text(report_file(period))
     number = 1
