@@ -10,6 +10,7 @@ from collections.abc import Mapping
 
 from plantbal.book.remedies import BookRemedy
 from plantbal.causes import Causes
+from plantbal.gates.remedies import GateRemedy
 from plantbal.lint.remedies import LintRemedy
 from plantbal.workbook.remedies import CellRemedy, OptionRemedy
 
@@ -88,6 +89,10 @@ AT_DESK: Mapping[Causes, str] = {
     BookRemedy.HEAD_HAS: "it has 64 hexadecimal digits, as the page that tests the book shows them",
     BookRemedy.NAME_A_HEAD: "{path}: it names no head of a book",
     BookRemedy.REJECT_AND_SUBMIT: "reject it, and submit it anew",
+    GateRemedy.MORE_SWEEPS: "whoever keeps the book's folder can make its report with more sweeps",
+    GateRemedy.SMALLER_GAP: "whoever keeps the book's folder can make its report with a smaller gap",
+    GateRemedy.ONE_CRITICAL: _BY_LEVEL,
+    GateRemedy.WITH_TESTS: "make its report again",
     LintRemedy.BY_ASSAYS: (
         "assays may determine it; or book what is missing, or measure a stream of its cycle"
     ),

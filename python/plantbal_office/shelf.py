@@ -157,9 +157,9 @@ def period_facts(plant: Plant, period: str) -> MonthFacts:
     return KEPT.of(Path(plant.folder), "facts", (period,), make)
 
 
-def run_settings(eliminate: int | None = None) -> RunSettings:
-    """Return how the program is run for a page; without a number, with that of the last report."""
-    return RunSettings(eliminate=eliminate, program=settings.PLANTBAL_PROGRAM)
+def run_settings(eliminate: int | None = None, *, tests: bool | None = None) -> RunSettings:
+    """Return how the program is run for a page; what isn't given is as in the last report."""
+    return RunSettings(tests, eliminate, program=settings.PLANTBAL_PROGRAM)
 
 
 def rounds_given(words: Mapping[str, str]) -> int | None:

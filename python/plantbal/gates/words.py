@@ -9,6 +9,7 @@ from collections.abc import Callable, Sequence
 
 from plantbal.amounts import tonnes_text
 from plantbal.gates.gate import Gate, Stop
+from plantbal.gates.remedies import GateRemedy
 from plantbal.model.forms import day_text
 from plantbal.sentence import Day, Figure, Joined, Sentence, counted
 
@@ -230,13 +231,13 @@ def _turn(stop: Stop) -> str:
 
 _REMEDIES: dict[Gate, Callable[[Stop], str]] = {
     Gate.NO_REPORT: lambda stop: "look for a digit too many in its facts",
-    Gate.UNCONVERGED: lambda stop: "allow more sweeps: --sweeps 50000, or plantbal-desk solve",
+    Gate.UNCONVERGED: lambda stop: GateRemedy.MORE_SWEEPS().sentence,
     Gate.REJECTED: lambda stop: "find what is wrong, and correct it",
-    Gate.UNDECIDED: lambda stop: "ask for a smaller gap: --gap 1",
+    Gate.UNDECIDED: lambda stop: GateRemedy.SMALLER_GAP().sentence,
     Gate.UNTESTED: lambda stop: (
-        Sentence("`plantbal-desk critical 0.05 {dof}` gives one", dof=stop.values["dof"])
+        GateRemedy.ONE_CRITICAL(dof=stop.values["dof"]).sentence
         if stop.values
-        else "make the report with --tests"
+        else GateRemedy.WITH_TESTS().sentence
     ),
     Gate.MISSING: lambda stop: "book what is missing, or an estimate with the error that it has",
     Gate.UNASSAYED: lambda stop: "enter it now: assays can't come after the close",

@@ -181,9 +181,9 @@ def undo_page(request: HttpRequest, year: str, identity: str) -> HttpResponse:
 
 
 def report(request: HttpRequest, period: str) -> HttpResponse:
-    """Make the report of a month, and show its statement."""
-    month_in_address(request, period)
-    settings = run_settings(rounds_given(request.POST))
+    """Make the report of a month, with tests as long as it is open, and show its statement."""
+    is_closed = month_in_address(request, period).closed
+    settings = run_settings(rounds_given(request.POST), tests=None if is_closed else True)
 
     def deed() -> str:
         made = book_of(request).report(period, settings=settings)

@@ -8,7 +8,9 @@ from pathlib import Path
 from office.site_of import Site
 from office.test_bundles import ANYWAY, bundle_in
 
+from plantbal import Book
 from plantbal.book.forms import report_file
+from plantbal.program import RunSettings
 from plantbal.report.output import parse_report
 from plantbal.report.rounds import rounds_shown
 
@@ -54,6 +56,16 @@ def test_what_the_last_report_left_out(site: Site) -> None:
     assert left_out(site) == (1, ["TAILS"]), "as from the page of months"
     reported(site, "0")
     assert (left_out(site), chosen(site)) == ((0, []), ["0"])
+
+
+def test_tests_come_back(site: Site) -> None:
+    """A report that a command made without tests is made with them at the desk, as the page says."""
+    untested = RunSettings(tests=False)
+    Book(site.book, who="Ann").report(APRIL, settings=untested)
+    made = Path(site.book) / report_file(APRIL)
+    assert parse_report(made.read_text(encoding="ascii"), APRIL).reports[-1].tested is None
+    reported(site, "")
+    assert parse_report(made.read_text(encoding="ascii"), APRIL).reports[-1].tested is not None
 
 
 def test_a_close_leaves_it_out(site: Site, tmp_path: Path) -> None:

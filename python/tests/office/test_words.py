@@ -17,6 +17,7 @@ from office.site_of import TOP, Site
 from plantbal.book.naming import cell_of
 from plantbal.causes import CausedFault
 from plantbal.book.remedies import BookRemedy
+from plantbal.gates.remedies import GateRemedy
 from plantbal.lint.remedies import LintRemedy
 from plantbal.workbook.cells import Reader
 from plantbal.workbook.remedies import CellRemedy, OptionRemedy
@@ -161,7 +162,7 @@ OPTION = re.compile(r"--[a-z]|plantbal-desk")
 
 def test_no_options() -> None:
     """What names a command or its option has another form at the desk, and none of these does."""
-    remedies = (*CellRemedy, *OptionRemedy, *LintRemedy, *BookRemedy)
+    remedies = (*CellRemedy, *OptionRemedy, *LintRemedy, *BookRemedy, *GateRemedy)
     named = {each for each in remedies if OPTION.search(str(each.value))}
     assert named <= set(AT_DESK)
     assert not [text for text in AT_DESK.values() if OPTION.search(text)]
