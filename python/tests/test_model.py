@@ -12,7 +12,7 @@ from plantbal import Session
 from plantbal.model.causes import Cause, Reason, Refused
 from plantbal.model.facts import At
 from plantbal.model.file import Rows, rows_of, steps
-from plantbal.model.forms import ASKS
+from plantbal.model.forms import ASKS, REASONED
 from plantbal.model.ledger import Ledger
 from plantbal.model.remedies import _DO, _FORMS, _REMEDIES
 from plantbal.model.state import EFFECTS, Accepted, State
@@ -53,6 +53,11 @@ def test_what_asks_is_not_stored() -> None:
             ):
                 asks[step.fields[0]] = step.answer.effect.asks
     assert {kind for kind, each in asks.items() if each} == set(ASKS)
+
+
+def test_rows_with_a_reason() -> None:
+    """The rows whose reasons a book writes in plain letters are those that end with one."""
+    assert REASONED == {"amend", "strike"}
 
 
 def test_program_says_the_same(program: Path) -> None:

@@ -7,6 +7,7 @@ from dataclasses import dataclass, replace
 
 from plantbal.balance.problem import Flow, Measured, Problem
 from plantbal.faults import InputFault, Place
+from plantbal.model.forms import ASKS
 from plantbal.records import read_records, text_of, without_empty_end
 from plantbal.report.blocks import Block, last_blocks
 from plantbal.runs import run
@@ -144,7 +145,7 @@ def _mass_of(data: bytes, period: str, source: str, program: str | None) -> Bloc
 
 
 # The rows that ask for output.
-_ASKS = tuple((word,) for word in ("design", "advise", "report", "history", "window", "component"))
+_ASKS = tuple((kind,) for kind in ASKS)
 
 
 def _assays(data: bytes, period: str) -> Iterator[tuple[str, str, int, int, int]]:

@@ -19,6 +19,7 @@ from plantbal.model.booking import Amends, BooksAssay, BooksFact, Strikes
 from plantbal.model.causes import Cause
 from plantbal.model.effects import DeclaresStream, DeclaresTank, Effect
 from plantbal.model.file import Rows, Step
+from plantbal.model.forms import REASONED
 from plantbal.model.periods import Period
 from plantbal.model.plant import Service, dip_days, is_served
 from plantbal.records import text_of, without_empty_end
@@ -236,7 +237,7 @@ class YearLedger:
         Refusal
             If the program would refuse it.
         """
-        if fields[0] in ("amend", "strike"):
+        if fields[0] in REASONED:
             fields = (*fields[:-1], in_ascii(fields[-1]))
         number = self.count + 1  # a row is a line
         effect = self.session.take_row(fields, at=facts.At(number, number))

@@ -33,6 +33,10 @@ _PATTERNS = {
 }
 # The rows that ask for output and aren't stored.
 ASKS = ("design", "advise", "report", "history", "window", "component")
+# The kinds of rows whose last field is a reason.
+REASONED = frozenset(
+    row.kind for row in schema().session if row.columns and row.columns[-1].type == "reason"
+)
 
 
 @lru_cache(maxsize=100_000)
